@@ -1,0 +1,4 @@
+pub mod Sealing
+pub mod Bench
+pub mod Tokens
+pub mod Laws

@@ -1,0 +1,4 @@
+pub mod OneBit
+pub mod Positions
+pub mod Doubling
+pub mod Blooming

@@ -1,0 +1,4 @@
+pub mod Bits
+pub mod Bloom
+pub mod Sizes
+pub mod HashCount

@@ -60,3 +60,39 @@ def there_and_back(payload, low, high):
 there_and_back({"ip": "192.0.2.7", "issued": 1000}, 7, 9)
 there_and_back({"ip": "192.0.2.7", "port": 4433, "id": b"\xaa\xbb", "issued": 1}, 8, 9)
 there_and_back({"ip": "2001:db8::7", "port": 4433, "id": b"twenty bytes of name", "issued": 1000}, 9, 9)
+
+
+# The log over four periods, in whole seconds: two generations, each a set of at most 4 low halves.
+LIFETIME = 10
+start, one, two = 0, set(), set()
+
+
+def record(held, low):
+    if low in held:
+        return "refused 13"
+    if len(held) == 4:
+        return "refused 14"
+    held.add(low)
+    return "accepted"
+
+
+def log_answer(low, issued):
+    global start, one, two
+    expiry = issued + LIFETIME
+    if expiry < start:
+        return "refused 12"
+    since = expiry - start
+    if since < LIFETIME:
+        return record(one, low)
+    if since < 2 * LIFETIME:
+        return record(two, low)
+    if since < 3 * LIFETIME:
+        start, one, two = start + LIFETIME, two, set()
+    else:
+        start, one, two = issued, set(), set()
+    return record(two, low)
+
+
+print("log of two sets of 4, lifetime 10 s")
+for low, issued in [(7, 1000), (8, 999), (7, 1000), (9, 1010), (10, 1020), (9, 1010), (11, 1050), (10, 1020)]:
+    print(f"low half {low} issued {issued}: {log_answer(low, issued)}")

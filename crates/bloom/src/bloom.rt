@@ -22,7 +22,7 @@ use filter::Unmade;
 use filter::filled;
 
 // The most hash positions.
-const MAX_HASHES: u32 = 64;
+pub const MAX_HASHES: u32 = 64;
 
 // A Bloom filter: k positions among the bits of its words stand for a fingerprint.
 #[derive(Drop)]

@@ -9,6 +9,7 @@ mod tests;
 
 pub use bloom::BloomFilter;
 pub use bloom::BloomFilterFilter;
+pub use bloom::MAX_HASHES;
 pub use hash_count::optimal_k_num;
 pub use sizes::MAX_BUDGET;
 pub use sizes::allocate_words;

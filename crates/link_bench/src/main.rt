@@ -1,6 +1,8 @@
+mod periods;
 mod show;
 
 use answers::Refusal;
+use periods::run_log;
 use sealing::BenchScheme;
 use sealing::BenchSealing;
 use sealing::MAX_TOKEN;
@@ -13,6 +15,7 @@ use show::Hex;
 use show::HexDisplay;
 use show::Said;
 use show::SaidDisplay;
+use std::alloc::Global;
 use std::error::AnyError;
 use std::io;
 use wire::ConnectionId;
@@ -69,7 +72,7 @@ fn there_and_back<S: SealingScheme>(
     read(rt, scheme, &token[0..len])
 }
 
-fn run(rt: &impl Print) -> Result<(), AnyError> {
+fn run_tokens(rt: &impl Print) -> Result<(), AnyError> {
     let scheme = BenchScheme::new(*b"a key of the lab");
     let cab = IpAddr::V4([192, 0, 2, 7]);
     let validation = TokenPayload::Validation {
@@ -105,6 +108,11 @@ fn run(rt: &impl Print) -> Result<(), AnyError> {
     Ok(())
 }
 
+fn run(rt: &impl Print, heap: Global) -> Result<(), AnyError> {
+    run_tokens(rt)?;
+    run_log(rt, heap)
+}
+
 fn main(rt: LibcRuntime) -> Result<(), AnyError> {
-    rt.report(run(&rt))
+    rt.report(run(&rt, rt.alloc()))
 }

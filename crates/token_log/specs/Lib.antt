@@ -1,0 +1,4 @@
+pub mod Log
+pub mod Generations
+pub mod Laws
+pub mod Budgets

@@ -1,3 +1,4 @@
+#![tactic(auto)]
 // The block cipher AES-256 of FIPS 197.
 ghost use Rattle.aes.specs.Laws.{TheSubstitutionInverts, TheKeyExpansionFollowsItsRule, ACipherIsABlock};
 ghost use Rattle.aes.specs.Examples.{TheStandardsExamplesHold};

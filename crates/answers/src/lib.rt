@@ -1,3 +1,5 @@
+#![tactic(auto)]
+
 ghost use Rattle.std.specs.Prelude.{◌≡◌};
 ghost use Rattle.answers.specs.Numbers.{refusal_number, cause_number, NumbersTell};
 ghost use Rattle.answers.specs.declared.Cause.TheVariants.{Undecodable as is_undecodable};

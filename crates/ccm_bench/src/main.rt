@@ -1,3 +1,4 @@
+#![tactic(auto)]
 // Times the cipher, the hash and the scheme. Each figure is the least of some rounds.
 use aes::Aes256;
 use anyhow::anyhow;

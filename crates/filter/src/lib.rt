@@ -1,3 +1,5 @@
+#![tactic(auto)]
+
 ghost use Rattle.std.specs.Prelude.{◌≡◌, ℕ, ◌<◌, true, List, length};
 ghost use Rattle.filter.specs.Filter.{Meaning, Records, Emptied};
 ghost use Rattle.filter.specs.Lists.{member, distinct, place};

@@ -1,3 +1,5 @@
+#![tactic(auto)]
+
 use anyhow::anyhow;
 use filter::{ExactSet, Filter, ListingFilter, Places};
 use std::env;

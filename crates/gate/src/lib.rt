@@ -1,3 +1,5 @@
+#![tactic(auto)]
+
 ghost use Rattle.std.specs.Prelude.{◌≡◌, ◌≤◌, [], length, IfOk, Ok, OnOk};
 ghost use Rattle.wire.specs.Content.{id_bytes};
 ghost use Rattle.sealing.specs.Tokens.{says, wiped, TokenRead};

@@ -1,3 +1,4 @@
+#![tactic(auto)]
 // Bytes in hex, both ways.
 ghost use Rattle.std.specs.Prelude.{◌≡◌, IfOk};
 ghost use Rattle.hex_text.specs.Digits.{digit_of, paired, unhex, read};

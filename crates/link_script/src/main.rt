@@ -1,3 +1,4 @@
+#![tactic(auto)]
 // Runs a script of calls from standard input, and prints a line for each answer.
 mod answer;
 mod calls;

@@ -1,3 +1,4 @@
+#![tactic(auto)]
 // A pool of chained records over memory that the caller lends.
 mod chain;
 mod laws;

@@ -1,3 +1,5 @@
+#![tactic(auto)]
+
 ghost use Rattle.std.specs.Prelude.{◌≡◌, ℕ, ◌+◌, ◌≤◌, List, length, Some};
 ghost use Rattle.sealing.specs.Sealing.{Image, Opening, Seals, Opens};
 ghost use Rattle.sealing.specs.Laws.{AnImageFixesWhatOpens, NoTwoContentsHaveOneImage, AWrittenTokenSaysItsContent, OnlyWhatIsSealedIsRead};

@@ -1,3 +1,5 @@
+#![tactic(auto)]
+
 ghost use Rattle.sha256.specs.Laws.{ConstantsAreRoots, EverySchedule};
 
 mod block;

@@ -1,3 +1,5 @@
+#![tactic(auto)]
+
 ghost use Rattle.std.specs.Prelude.{◌≡◌, true, is_ok, Err};
 ghost use Rattle.answers.specs.declared.Cause.TheVariants.{Held as is_held};
 ghost use Rattle.token_log.specs.Log.{Bars, Query, Answer, Answered};

@@ -1,3 +1,4 @@
+#![tactic(auto)]
 // A client's store of the tokens it was given.
 ghost use Rattle.std.specs.Prelude.{false, []};
 ghost use Rattle.token_store.specs.Store.{Holds, Stores, Takes};

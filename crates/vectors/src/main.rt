@@ -1,3 +1,4 @@
+#![tactic(auto)]
 // Runs vectors from standard input, a line each, and prints for each group how many hold.
 mod checks;
 mod words;

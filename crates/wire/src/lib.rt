@@ -1,3 +1,5 @@
+#![tactic(auto)]
+
 ghost use Rattle.std.specs.Prelude.{◌≡◌, ◌<◌, ◌≤◌, length};
 ghost use Rattle.wire.specs.Content.{id_bytes, id_from, id_of, meant};
 ghost use Rattle.wire.specs.Laws.{SoundIp, Sound, DecodingUndoesEncoding, EachContentHasOneEncoding, ContentsAreShort};

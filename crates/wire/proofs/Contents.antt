@@ -3,7 +3,7 @@ use Rattle.std.proofs.Common.{◌≡◌, ℕ, suc, ◌+◌, ◌^◌, ◌<◌, �
 use Rattle.std.specs.Int.Digits.{number_from_digits}
 use Rattle.std.proofs.lemmas.Int.Digits.{number_lt}
 use Rattle.std.proofs.ByRecursion.{All-take, All-drop}
-use Rattle.std.proofs.lemmas.List.{take_at, drop_at, take-append-drop, drop_more, drop_all, append-nil, length-take-le, drop-drop}
+use Rattle.std.proofs.lemmas.List.{take_at, take-append-drop, drop_more, drop_all, append-nil, length-take-le, drop-drop}
 use Rattle.std.proofs.lemmas.Bool.{le-ltb, ltb-false, eq-eqb, eqb-true}
 use Rattle.answers.specs.declared.Fault.{Fault}
 use Rattle.answers.specs.declared.Fault.TheVariants.{Short, TokenType, IpKind, LongConnectionId, LateIssue, ExtraBytes}
@@ -14,7 +14,7 @@ use Rattle.wire.specs.Numbers.{Bytes, big_endian}
 use Rattle.wire.specs.Fields.{Reader, then, octets, both}
 use Rattle.wire.specs.Content.{Content, encode_ip, decode_ip, encode_port, decode_port, encode_addr, decode_addr, encode_id, decode_id, encode_time, decode_time, ended, encode_content, decode_retry, decode_validation, decode_content}
 use Rattle.wire.specs.Content.Content.{retry, validation}
-use Rattle.wire.specs.Laws.{SoundIp, SoundAddr, Sound, DecodingUndoesEncoding, EachContentHasOneEncoding, ContentsAreShort}
+use Rattle.wire.specs.Laws.{SoundIp, SoundAddr, DecodingUndoesEncoding, EachContentHasOneEncoding, ContentsAreShort}
 use Rattle.wire.proofs.Numbers.{length_big, big_back, big_only}
 use Rattle.wire.proofs.Faithful.{apart, same_ok, then_ok, Only, moved, Faithful, both_faithful}
 

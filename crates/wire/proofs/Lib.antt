@@ -1,6 +1,5 @@
 pub mod Numbers
 pub mod Reading
 pub mod Writing
-pub mod Sameness
 pub mod Faithful
 pub mod Contents

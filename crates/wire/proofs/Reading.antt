@@ -1,12 +1,12 @@
 -- From the steps of a reader to the definition of what it reads.
-use Rattle.std.proofs.Common.{◌≡◌, ℕ, ◌+◌, ◌-◌, ◌<◌, ◌≤◌, Bool, true, false, cond, eqb, ltb, List, [], ◌∷◌, ◌++◌, length, get_or, take, drop, IsErrAnd, IfOk, Ok, Err, Result, sym, refl, ap, ◌∙◌, arith, length-drop}
+use Rattle.std.proofs.Common.{◌≡◌, ℕ, ◌+◌, ◌-◌, ◌≤◌, Bool, true, false, cond, eqb, List, length, get_or, take, drop, IsErrAnd, IfOk, Ok, Err, Result, sym, refl, ap, ◌∙◌, arith, length-drop}
 use Rattle.std.proofs.lemmas.Bool.{le-ltb}
 use Rattle.std.proofs.lemmas.Bool.Decides.{nat_tests}
 use Rattle.std.proofs.lemmas.List.{take_rest}
 use Rattle.std.proofs.lemmas.Result.{err_from_is_err_and}
 use Rattle.answers.specs.declared.Fault.{Fault}
 use Rattle.answers.specs.declared.Fault.TheVariants.{ExtraBytes}
-use Rattle.wire.specs.Fields.{Reader, then, octets, both}
+use Rattle.wire.specs.Fields.{Reader, both}
 use Rattle.wire.specs.Content.{decode_retry, decode_validation, decode_content, ended}
 use Rattle.wire.proofs.Faithful.{apart}
 

@@ -2,3 +2,4 @@ pub mod Numbers
 pub mod Fields
 pub mod Content
 pub mod Laws
+pub mod Sameness

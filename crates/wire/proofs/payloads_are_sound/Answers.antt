@@ -3,10 +3,10 @@ use Rattle.wire.proofs.payloads_are_sound.Goals as goal
 
 pub returns-in-Retry : goal.returns-in-Retry
 returns-in-Retry c =
-    let fits = c.numbers-fit.ensures in
+    let fits = c.numbers_fit.ensures in
     rw c.in-Retry.is
-    ((c.ips-are-sound.ensures, fits.port), omega (arith, ap length c.as-slice.ensures.value), fits.seconds)
+    ((c.ips_are_sound.ensures, fits.port), omega (arith, ap length c.as_slice.ensures.value), fits.seconds)
 
 pub returns-in-Validation : goal.returns-in-Validation
 returns-in-Validation c =
-    rw c.in-Validation.is (c.ips-are-sound-in-Validation.ensures, c.numbers-fit-in-Validation.ensures.seconds)
+    rw c.in-Validation.is (c.ips_are_sound-in-Validation.ensures, c.numbers_fit-in-Validation.ensures.seconds)

@@ -5,5 +5,5 @@ use Rattle.wire.proofs.encode.put.Goals as goal
 pub returns : goal.returns
 returns c = record {
   ends = refl;
-  after = put_pasted c.args.bytes.now c.copy-from-slice.new.self c.args.out.now c.args.at _ c.copy-from-slice.ensures.after (omega arith);
+  after = put_pasted c.args.bytes.now c.copy_from_slice.new.self c.args.out.now c.args.at _ c.copy_from_slice.ensures.after (omega arith);
 }

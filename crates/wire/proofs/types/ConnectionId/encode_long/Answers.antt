@@ -8,4 +8,4 @@ pub returns : goal.returns
 returns c =
     let id = id_bytes c.args.self.now in
     let n : length id ≡ c.args.self.now.len = length-take-le _ _ (omega arith) in
-    then_put (encode_id id) (ap (λ z. z ∷ id) n ∙ ap (λ z. c.args.self.now.len ∷ z) (sym c.as-slice.ensures.value)) c.requires c.put-at.ensures c.put.ensures
+    then_put (encode_id id) (ap (λ z. z ∷ id) n ∙ ap (λ z. c.args.self.now.len ∷ z) (sym c.as_slice.ensures.value)) c.requires c.put-at.ensures c.put.ensures

@@ -5,8 +5,8 @@ use Rattle.wire.proofs.types.TokenPayload.encoded_len.Goals as goal
 
 pub returns-in-Retry : goal.returns-in-Retry
 returns-in-Retry c =
-    let l = retry_length c.in-Retry.address (id_bytes c.in-Retry.orig-dst-cid) c.in-Retry.issued in
-    let n = ap length c.as-slice.ensures.value in
+    let l = retry_length c.in-Retry.address (id_bytes c.in-Retry.orig_dst_cid) c.in-Retry.issued in
+    let n = ap length c.as_slice.ensures.value in
     let s = ap (λ z. length (encode_content (meant z))) c.in-Retry.is in
     omega (arith, s)
 

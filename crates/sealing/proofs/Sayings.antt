@@ -1,18 +1,16 @@
 -- The laws of sealing schemes and of tokens.
-use Rattle.std.proofs.Common.{◌≡◌, ℕ, ◌+◌, ◌-◌, ◌<◌, ◌≤◌, List, [], ◌∷◌, ◌++◌, length, take, drop, Some, None, Ok, Err, Option, Result, sym, refl, ap, ◌∙◌, arith, length-append}
+use Rattle.std.proofs.Common.{◌≡◌, ℕ, ◌+◌, ◌-◌, ◌<◌, ◌≤◌, List, ◌++◌, length, take, Some, None, Ok, Err, Option, Result, sym, refl, ap, ◌∙◌, arith, length-append}
 use Rattle.std.proofs.lemmas.List.{take_at, drop_at, take-append-drop}
-use Rattle.answers.specs.declared.Cause.{Cause}
 use Rattle.answers.specs.declared.Cause.TheVariants.{Unopened, Undecodable}
 use Rattle.answers.specs.declared.Fault.{Fault}
-use Rattle.wire.specs.Numbers.{little_endian, from_little_endian}
+use Rattle.wire.specs.Numbers.{from_little_endian}
 use Rattle.wire.specs.Content.{Content, encode_content, decode_content}
-use Rattle.wire.specs.Laws.{Sound}
 use Rattle.wire.proofs.Numbers.{little_back}
 use Rattle.wire.proofs.Contents.{back, short}
 use Rattle.wire.proofs.Faithful.{apart, same_ok, then_ok}
 use Rattle.sealing.specs.Sealing.{Image, Opening, Undoes}
-use Rattle.sealing.specs.Tokens.{nonce_bytes, sealed_with, token_for, sealed_of, nonce_of, low_of, sized, decoded, unsealed, says}
-use Rattle.sealing.specs.Laws.{NoTwoContentsHaveOneImage, AnImageFixesWhatOpens, SaysItsContent, AWrittenTokenSaysItsContent, OnlyWhatIsSealedIsRead}
+use Rattle.sealing.specs.Tokens.{nonce_bytes, sealed_with, sealed_of, nonce_of, low_of, sized, decoded, unsealed, says}
+use Rattle.sealing.specs.Laws.{NoTwoContentsHaveOneImage, AnImageFixesWhatOpens, AWrittenTokenSaysItsContent, OnlyWhatIsSealedIsRead}
 use Rattle.sealing.specs.Openings.{same_some}
 use Rattle.sealing.proofs.Tokening.{says_opened, well_sized}
 

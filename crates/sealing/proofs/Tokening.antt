@@ -1,7 +1,7 @@
 -- From the steps of reading and writing a token to what it says.
-use Rattle.std.proofs.Common.{◌≡◌, ℕ, ◌+◌, ◌-◌, ◌<◌, ◌≤◌, List, [], ◌∷◌, ◌++◌, length, take, drop, replicate, Some, None, Ok, Err, Option, Result, sym, refl, ap, ◌∙◌, arith, length-append, length-drop, length-take}
+use Rattle.std.proofs.Common.{◌≡◌, ℕ, ◌+◌, ◌-◌, ◌≤◌, List, ◌++◌, length, take, drop, Ok, Err, Option, Result, sym, ap, ◌∙◌, arith, length-append}
 use borrow.Rule.Slice.PartMut.{put_mid}
-use Rattle.std.proofs.lemmas.List.{take_at, drop_at, take_rest, take-append-drop, length-take-le}
+use Rattle.std.proofs.lemmas.List.{take_at, take_rest}
 use Rattle.std.proofs.lemmas.Bool.{le-ltb, or_from, cond-false}
 use Rattle.answers.specs.declared.Cause.{Cause}
 use Rattle.answers.specs.declared.Cause.TheVariants.{Undecodable}
@@ -11,7 +11,7 @@ use Rattle.wire.specs.Content.{Content}
 use Rattle.answers.specs.Buffers.{fronted, pasted}
 use Rattle.answers.proofs.Buffers.{put_pasted, pasted-pasted, pasted_front}
 use Rattle.sealing.specs.declared.token.Token.{Token}
-use Rattle.sealing.specs.Sealing.{Image, Opening, Opens}
+use Rattle.sealing.specs.Sealing.{Image, Opening}
 use Rattle.sealing.specs.Tokens.{sized, sealed_of, nonce_of, low_of, decoded, unsealed, says, content_read}
 
 pub well_sized : (t : List ℕ) → 16 ≤ length t → length t ≤ 81 → sized t ≡ Ok tt

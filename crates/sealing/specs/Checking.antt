@@ -1,13 +1,12 @@
 -- The bench scheme seals and opens.
-use Rattle.std.specs.Prelude.{◌≡◌, ℕ, ◌+◌, ◌-◌, ◌<◌, ◌≤◌, Bool, true, false, cond, ◌||◌, ltb, ◌⊎◌, List, [], ◌∷◌, ◌++◌, length, take, drop, Some, None, Ok, Err, Option, Result, ◌≢◌, nat_lt, refl}
-use Rattle.std.proofs.Common.{sym, ap, ◌∙◌, inl, inr, ⊎_elim, length-append, length-take, length-drop, arith}
+use Rattle.std.specs.Prelude.{◌≡◌, ℕ, ◌+◌, ◌-◌, ◌<◌, ◌≤◌, false, ◌||◌, ltb, ◌⊎◌, List, ◌++◌, length, take, drop, Some, None, Ok, ◌≢◌, nat_lt, refl}
+use Rattle.std.proofs.Common.{sym, ap, ◌∙◌, ⊎_elim, length-append, length-take, arith}
 use borrow.Rule.Slice.PartMut.{put_mid}
-use Rattle.std.proofs.lemmas.List.{take_at, drop_at, take-append-drop, take_rest, append-nil, length-take-le}
-use Rattle.std.proofs.lemmas.Slice.{drop-append-drop}
-use Rattle.std.proofs.lemmas.Bool.{le-ltb, ltb-false, or_from, cond-false}
+use Rattle.std.proofs.lemmas.List.{take_at, drop_at, take-append-drop, length-take-le}
+use Rattle.std.proofs.lemmas.Bool.{le-ltb, or_from, cond-false}
 use Rattle.answers.specs.Buffers.{fronted, pasted}
 use Rattle.answers.proofs.Buffers.{put_pasted, pasted-pasted, pasted_front}
-use Rattle.sealing.specs.Sealing.{Image, Opening, Undoes, Seals, Opens, sealing}
+use Rattle.sealing.specs.Sealing.{Undoes, Seals}
 use Rattle.sealing.specs.Bench.{check_bytes, bench_image, bench_opened}
 use Rattle.sealing.specs.Checks.{length_checks}
 use Rattle.sealing.specs.Openings.{undone, none_opens}

@@ -1,5 +1,5 @@
 -- The bytes of a token, what they say, and what reading and writing one leaves.
-use Rattle.std.specs.Prelude.{◌≡◌, ℕ, ◌+◌, ◌-◌, ◌≤◌, Bool, cond, ◌||◌, List, ◌++◌, length, take, drop, replicate, is_ok, IfOk, Some, None, Ok, Err, Option, Result, nat_lt}
+use Rattle.std.specs.Prelude.{◌≡◌, ℕ, ◌-◌, ◌≤◌, cond, ◌||◌, List, ◌++◌, length, take, drop, replicate, is_ok, IfOk, Some, None, Ok, Err, Option, Result, nat_lt}
 use Rattle.answers.specs.declared.Refusal.{Refusal}
 use Rattle.answers.specs.declared.Refusal.TheVariants.{SmallBuffer}
 use Rattle.answers.specs.declared.Cause.{Cause}

@@ -1,4 +1,4 @@
-use Rattle.std.proofs.Common.{◌∙◌, arith, length-set, rules}
+use Rattle.std.proofs.Common.{◌∙◌, arith, length-set}
 use Rattle.sealing.specs.Checks.{column-added, still_byte, all_checked}
 use Rattle.sealing.proofs.bench.check_bytes.Goals as goal
 

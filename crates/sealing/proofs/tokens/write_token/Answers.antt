@@ -1,4 +1,4 @@
-use Rattle.std.proofs.Common.{◌≡◌, ◌+◌, ◌-◌, ◌≤◌, length, drop, sym, refl, ap, ◌∙◌, arith}
+use Rattle.std.proofs.Common.{◌≡◌, ◌+◌, ◌-◌, ◌≤◌, length, drop, refl, ap, ◌∙◌, arith}
 use Rattle.std.proofs.lemmas.Slice.{drop-append-drop}
 use Rattle.wire.specs.Content.{meant, encode_content}
 use Rattle.sealing.specs.Tokens.{sealed_with}
@@ -11,15 +11,15 @@ returns g c =
     let scheme = c.args.scheme.now in
     let nonce = c.args.nonce.now in
     let bs = encode_content (meant c.args.payload.now) in
-    let len = c.encode-into-len.result in
-    let l : len ≡ length bs = c.encode-into-len.ensures.len in
-    let small : len ≤ 49 = c.encode-into-len.ensures.bound in
+    let len = c.encode_into-len.result in
+    let l : len ≡ length bs = c.encode_into-len.ensures.len in
+    let small : len ≤ 49 = c.encode_into-len.ensures.bound in
     let longer = g.met.S.SealingScheme.longer scheme nonce bs (omega arith) in
-    let end = c.seal-into-end.result in
-    let e : end ≡ len + 16 = c.seal-into-end.ensures.len in
-    let w = token_written (g.S.SealingScheme.image scheme) nonce bs c.args.working.now c.encode-into-len.new.working c.args.out.now c.seal-into-end.new.out c.copy-from-slice.new.self
-    len end (end + 16 - end) longer (omega arith) c.encode-into-len.ensures.after l c.seal-into-end.ensures.after e c.copy-from-slice.ensures.after (omega arith) (omega arith) in
+    let end = c.seal_into-end.result in
+    let e : end ≡ len + 16 = c.seal_into-end.ensures.len in
+    let w = token_written (g.S.SealingScheme.image scheme) nonce bs c.args.working.now c.encode_into-len.new.working c.args.out.now c.seal_into-end.new.out c.copy_from_slice.new.self
+    len end (end + 16 - end) longer (omega arith) c.encode_into-len.ensures.after l c.seal_into-end.ensures.after e c.copy_from_slice.ensures.after (omega arith) (omega arith) in
     record {
       written = record { len = w.0; bound = omega arith; after = w.1 };
-      past = c.seal-into-end.ensures.past ∙ ap (drop 96) c.encode-into-len.ensures.after ∙ drop-append-drop (length bs) c.args.working.now bs 96 (omega arith) refl;
+      past = c.seal_into-end.ensures.past ∙ ap (drop 96) c.encode_into-len.ensures.after ∙ drop-append-drop (length bs) c.args.working.now bs 96 (omega arith) refl;
     }

@@ -8,6 +8,6 @@ pub returns : goal.returns
 unfolding nonce_bytes
 returns c =
     let n = c.args.self.now in
-    let e : c.copy-from-slice.new.self ≡ little_endian 8 n.low = c.copy-from-slice.ensures.after ∙ c.to-le-bytes.ensures ∙ write_8 n.low in
-    let f : c.copy-from-slice-2.new.self ≡ little_endian 8 n.high = c.copy-from-slice-2.ensures.after ∙ c.to-le-bytes-2.ensures ∙ write_8 n.high in
+    let e : c.copy_from_slice.new.self ≡ little_endian 8 n.low = c.copy_from_slice.ensures.after ∙ c.to_le_bytes.ensures ∙ write_8 n.low in
+    let f : c.copy_from_slice-2.new.self ≡ little_endian 8 n.high = c.copy_from_slice-2.ensures.after ∙ c.to_le_bytes-2.ensures ∙ write_8 n.high in
     rw (e, f)

@@ -7,15 +7,15 @@ use Rattle.record_pool.proofs.memory.detach.Goals as goal
 pub returns-then-k-eq0 : goal.returns-then-k-eq0
 returns-then-k-eq0 g c = record {
   slots = c.link.ensures.slots;
-  chains = λ others sh. detached_first (length c.args.records.now) (links c.args.records.now) (links c.link.new.records) c.args.chain c.args.k c.next-of-next.result others
-      (length-links c.args.records.now) (omega arith) (omega arith) sh c.next-of-next.ensures c.link.ensures.links;
+  chains = λ others sh. detached_first (length c.args.records.now) (links c.args.records.now) (links c.link.new.records) c.args.chain c.args.k c.next_of-next.result others
+      (length-links c.args.records.now) (omega arith) (omega arith) sh c.next_of-next.ensures c.link.ensures.links;
 }
 
 pub returns : goal.returns
 returns g c = record {
   slots = c.link-3.ensures.slots ∙ c.link-2.ensures.slots;
   chains = λ others sh. detached_later (length c.args.records.now) (links c.args.records.now) (links c.link-2.new.records) (links c.link-3.new.records)
-      c.args.chain c.args.k c.place-of-before.result c.next-of-place.result c.next-of-after.result others
+      c.args.chain c.args.k c.place_of-before.result c.next_of-place.result c.next_of-after.result others
       (length-links c.args.records.now) (omega arith) (omega arith) sh
-      c.place-of-before.ensures c.next-of-place.ensures c.next-of-after.ensures c.link-2.ensures.links c.link-3.ensures.links;
+      c.place_of-before.ensures c.next_of-place.ensures c.next_of-after.ensures c.link-2.ensures.links c.link-3.ensures.links;
 }

@@ -16,7 +16,7 @@ returns g c = record {
   chains = λ others small sh.
       let t : c.args.front.count + c.args.back.count ≤ length c.args.records.now
       = two_counts (length c.args.records.now) (links c.args.records.now) c.args.front c.args.back others sh in
-      let e : c.saturating-add.result ≡ c.args.front.count + c.args.back.count = omega (arith, c.saturating-add.ensures, small) in
-      joined_some (length c.args.records.now) (links c.args.records.now) (links c.link.new.records) c.args.front c.args.back c.place-of-last.result c.saturating-add.result others
-      (length-links c.args.records.now) (omega arith) sh c.place-of-last.ensures c.link.ensures.links e;
+      let e : c.saturating_add.result ≡ c.args.front.count + c.args.back.count = omega (arith, c.saturating_add.ensures, small) in
+      joined_some (length c.args.records.now) (links c.args.records.now) (links c.link.new.records) c.args.front c.args.back c.place_of-last.result c.saturating_add.result others
+      (length-links c.args.records.now) (omega arith) sh c.place_of-last.ensures c.link.ensures.links e;
 }

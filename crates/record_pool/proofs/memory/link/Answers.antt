@@ -2,9 +2,9 @@ use Rattle.std.proofs.Common.{refl}
 use Rattle.record_pool.proofs.Cells.{links-set, links_kept, slots_same}
 use Rattle.record_pool.proofs.memory.link.Goals as goal
 
-pub returns-in-default : goal.returns-in-default
-returns-in-default g c = record {
-  links = links_kept c.args.records.now c.args.place c.args.to c.in-default.ensures;
+pub returns-in_default : goal.returns-in_default
+returns-in_default g c = record {
+  links = links_kept c.args.records.now c.args.place c.args.to c.in_default.ensures;
   slots = refl;
 }
 

@@ -2,11 +2,11 @@ use Rattle.std.proofs.Common.{is_some, refl, ap}
 use Rattle.record_pool.proofs.Cells.{links_same, slots_at, slots_none, slots_put, some_none}
 use Rattle.record_pool.proofs.memory.put.Goals as goal
 
-pub returns-in-default : goal.returns-in-default
-returns-in-default g c = record {
-  answer = ap is_some (slots_none c.args.records.now c.args.place c.in-default.ensures);
+pub returns-in_default : goal.returns-in_default
+returns-in_default g c = record {
+  answer = ap is_some (slots_none c.args.records.now c.args.place c.in_default.ensures);
   links = refl;
-  slots = some_none c.args.records.now c.args.place c.args.item c.in-default.ensures;
+  slots = some_none c.args.records.now c.args.place c.args.item c.in_default.ensures;
 }
 
 pub returns : goal.returns

@@ -6,7 +6,7 @@ use Rattle.record_pool.proofs.pool.Pool.place.Goals as goal
 
 pub returns-then-k-chain : goal.returns-then-k-chain
 returns-then-k-chain g c =
-    ap Some c.place-of.ensures ∙ sym (nth-walk c.args.chain.count c.args.k (links c.args.self.now.records.now) c.args.chain.first c.if-k-chain.true)
+    ap Some c.place_of.ensures ∙ sym (nth-walk c.args.chain.count c.args.k (links c.args.self.now.records.now) c.args.chain.first c.if-k-chain.true)
 
 pub returns-else-k-chain : goal.returns-else-k-chain
 returns-else-k-chain g c =

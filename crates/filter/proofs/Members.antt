@@ -1,10 +1,9 @@
 -- Membership in lists of fingerprints, and what a set means before and after a call.
-use Rattle.std.proofs.Common.{◌≡◌, ℕ, zero, suc, ◌+◌, ◌-◌, ◌<◌, ◌≤◌, Bool, true, false, cond, not, ◌&&◌, ◌||◌, eqb, ltb, ◌⊎◌, List, [], ◌∷◌, ◌++◌, length, get_or, Some, None, Ok, Err, Option, Result, sym, refl, ap, ◌∙◌, inl, inr, ⊎_elim, arith}
+use Rattle.std.proofs.Common.{◌≡◌, ℕ, zero, suc, ◌<◌, Bool, true, false, ◌||◌, eqb, List, [], ◌∷◌, ◌++◌, length, get_or, Some, Ok, Err, sym, refl, ap, ◌∙◌, ⊎_elim, arith}
 use Rattle.std.proofs.lemmas.Bool.{false≢true, true≢false, eqb-true, eqb-false, eq-eqb, ne_eqb, or_cases, or_parts, or_from, or_left, or_right, and_parts, and_from, not-true, not_from_false, cases_Bool, lt-ltb}
 use Rattle.std.proofs.lemmas.List.{length_push}
-use Rattle.answers.specs.declared.Cause.{Cause}
 use Rattle.answers.specs.declared.Cause.TheVariants.{Held, Full}
-use Rattle.filter.specs.Filter.{Meaning, Same, Recorded, Records, Emptied, exact, reply}
+use Rattle.filter.specs.Filter.{Meaning, Same, Recorded, Records, Emptied, exact}
 use Rattle.filter.specs.Lists.{member, distinct, place}
 
 member-at : (xs : List ℕ) (i : ℕ) → i < length xs → member (get_or xs i 0) xs ≡ true

@@ -1,11 +1,10 @@
 -- Fingerprints recorded one after the other, and a filter that goes over.
-use Rattle.std.proofs.Common.{◌≡◌, ℕ, ◌+◌, ◌-◌, ◌<◌, ◌≤◌, Bool, true, false, cond, ◌||◌, eqb, ◌⊎◌, List, [], ◌∷◌, ◌++◌, length, get_or, take, is_ok, Some, None, Ok, Err, Option, Result, sym, refl, ap, ◌∙◌, subst, inl, inr, ⊎_elim, arith}
+use Rattle.std.proofs.Common.{◌≡◌, ℕ, ◌+◌, ◌-◌, ◌<◌, true, false, List, [], ◌∷◌, ◌++◌, length, get_or, take, is_ok, Some, None, Ok, Option, Result, sym, refl, ap, ◌∙◌, ⊎_elim, arith}
 use Rattle.std.proofs.lemmas.Bool.{false≢true, true≢false, eqb-true, eq-eqb, or_cases, or_left, or_right, cases_Bool, cases_eq, both_ways, cond-true, cond-false}
 use Rattle.std.proofs.lemmas.List.{take_more}
 use Rattle.answers.specs.declared.Cause.{Cause}
-use Rattle.filter.specs.declared.turning.Form.{Form}
 use Rattle.filter.specs.declared.turning.Form.TheVariants.{Listing, Over}
-use Rattle.filter.specs.Filter.{Meaning, Same, Recorded, Records, reply}
+use Rattle.filter.specs.Filter.{Meaning, Recorded, Records}
 use Rattle.filter.specs.Lists.{member, place}
 use Rattle.filter.specs.Turning.{Poured, in_form}
 use Rattle.filter.proofs.Members.{place_in, member_push}

@@ -1,5 +1,5 @@
 -- A filter that begins as a listing one and goes over to another.
-use Rattle.std.specs.Prelude.{◌≡◌, ℕ, ◌-◌, Bool, true, false, List, [], ◌∷◌, ◌++◌, Ok, Err, Result}
+use Rattle.std.specs.Prelude.{◌≡◌, ℕ, ◌-◌, true, false, List, [], ◌∷◌, ◌++◌, Ok, Result}
 use Rattle.answers.specs.declared.Cause.{Cause}
 use Rattle.filter.specs.declared.turning.Form.{Form}
 use Rattle.filter.specs.declared.turning.Form.TheVariants.{Listing, Over}

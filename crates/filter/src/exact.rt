@@ -4,7 +4,7 @@ ghost use Rattle.filter.specs.Memory.{room_of};
 ghost use Rattle.filter.specs.Filter.{Records, Emptied, exact as exactly};
 ghost use Rattle.filter.specs.Lists.{member, distinct};
 ghost use Rattle.filter.specs.Indexed.{bucket as bucket_of, Headed, Chained};
-ghost use Rattle.std.proofs.Common.{rules, arith};
+ghost use Rattle.std.proofs.Common.{rules};
 
 use crate::memory::{Unmade, filled};
 use crate::{Filter, ListingFilter};
@@ -166,9 +166,9 @@ impl Filter for ExactSet {
 impl ListingFilter for ExactSet {
     ghost listed = { λ s. s.held.items };
 
-    ghost once = { first_of (Prim.search rules, Prim.grind (arith, Self.row.coded.inj)) };
+    ghost once = { Prim.search rules };
 
-    ghost just = { first_of (Prim.search rules, Prim.grind (arith, Self.row.coded.inj)) };
+    ghost just = { Prim.search rules };
 
     fn sure(&self) -> usize {
         self.capacity as usize - self.held.len()

@@ -1,4 +1,4 @@
-use Rattle.std.proofs.Common.{◌≡◌, ℕ, ◌<◌, length, get_or, sym, ◌∙◌, arith}
+use Rattle.std.proofs.Common.{◌≡◌, ◌<◌, length, get_or, sym, arith}
 use Rattle.filter.proofs.Members.{found_at, absent, place_in}
 use Rattle.filter.proofs.ListingFilter.holds.Goals as goal
 

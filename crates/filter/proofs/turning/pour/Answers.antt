@@ -1,9 +1,9 @@
-use Rattle.std.proofs.Common.{◌≡◌, ℕ, ◌+◌, ◌<◌, ◌≤◌, List, length, take, sym, subst, arith}
+use Rattle.std.proofs.Common.{ℕ, ◌+◌, ◌<◌, ◌≤◌, List, length, take, sym, subst, arith}
 use Rattle.std.proofs.lemmas.List.{take_all}
 use Rattle.filter.specs.Turning.{Poured}
 use Rattle.filter.proofs.Pours.{poured_told, told-some}
 use Rattle.filter.proofs.turning.pour.Goals as goal
-use Rattle.filter.proofs.turning.pour.Goals.{in-Some, in-default}
+use Rattle.filter.proofs.turning.pour.Goals.{in-Some, in_default}
 
 pub loop-i-preserved : goal.loop-i-preserved
 loop-i-preserved g c =
@@ -13,7 +13,7 @@ loop-i-preserved g c =
       | in-Some w ↦
           let P : g.row.B.Denot → Type 0 = λ o. Poured (take (c.loop-i.i + 1) fs) (g.B.Filter.meaning c.args.other.now) (g.B.Filter.meaning o) in
           subst P (sym w.other-is) (poured_told fs _ _ _ _ _ _ _ h c.tell.ensures w.in-Some.is c.loop-i.invariant w.record.ensures)
-      | in-default w ↦ told-some fs _ _ h c.tell.ensures w.in-default.is
+      | in_default w ↦ told-some fs _ _ h c.tell.ensures w.in_default.is
     ]
 
 pub returns : goal.returns

@@ -1,7 +1,5 @@
-use Rattle.std.proofs.Common.{◌≡◌, ◌<◌, sym, refl, ap, ◌∙◌, arith}
+use Rattle.std.proofs.Common.{◌≡◌, ◌<◌, sym, refl, ◌∙◌, arith}
 use Rattle.filter.specs.Turning.Turns.{goes}
-use Rattle.filter.specs.Turning.{in_form}
-use Rattle.filter.specs.Filter.{Records}
 use Rattle.filter.proofs.Pours.{poured_push, went_over}
 use Rattle.filter.proofs.turning.TurningFilterFilter.record.Goals as goal
 

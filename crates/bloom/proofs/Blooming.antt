@@ -1,5 +1,5 @@
 -- What a Bloom filter means before and after a call.
-use Rattle.std.proofs.Common.{◌≡◌, ℕ, ◌*◌, ◌<◌, ◌≤◌, true, false, List, length, replicate, Ok, sym, refl, ap, ◌∙◌, arith}
+use Rattle.std.proofs.Common.{◌≡◌, ℕ, ◌*◌, ◌<◌, ◌≤◌, false, List, length, replicate, Ok, sym, refl, arith}
 use Rattle.std.proofs.lemmas.Bool.{true≢false, cond-false}
 use Rattle.filter.specs.Filter.{Records, Emptied}
 use Rattle.bloom.specs.Bits.{all_set, with_set}

@@ -1,5 +1,5 @@
 -- The sure counts 0, 3, 7, 14, 28 and on.
-use Rattle.std.proofs.Common.{◌≡◌, ℕ, zero, suc, ◌+◌, ◌*◌, ◌^◌, ◌<◌, ◌≤◌, ◌⊎◌, sym, refl, ap, ◌∙◌, inl, inr, ⊎_elim, pow-suc, arith, pow_pos}
+use Rattle.std.proofs.Common.{◌≡◌, ℕ, zero, suc, ◌*◌, ◌^◌, ◌<◌, ◌≤◌, ◌⊎◌, refl, ap, ⊎_elim, pow-suc, arith, pow_pos}
 use lib.Pow.{pow-lt}
 use Rattle.std.proofs.lemmas.Bool.{cases_order}
 use Rattle.bloom.specs.Sizes.{sure_count, Largest}

@@ -1,5 +1,5 @@
 -- One bit of a word, after an `or`.
-use Rattle.std.proofs.Common.{◌≡◌, ℕ, zero, suc, ◌+◌, ◌*◌, ◌/◌, ◌%◌, ◌^◌, ◌<◌, sym, refl, ap, ◌∙◌, le_of_suc-le-suc, not-suc-le-zero, arith, pow_pos}
+use Rattle.std.proofs.Common.{◌≡◌, ℕ, zero, suc, ◌/◌, ◌%◌, ◌^◌, ◌<◌, refl, ap, ◌∙◌, le_of_suc-le-suc, not-suc-le-zero, arith, pow_pos}
 use native.Mathlib.Nat.{div_self}
 use lib.Bits.{bit_or, or_shr, or_mod, or_comm}
 

@@ -1,5 +1,5 @@
 -- Bits in words of 64, and the positions that a fingerprint has among m bits.
-use Rattle.std.specs.Prelude.{ℕ, zero, suc, ◌+◌, ◌-◌, ◌*◌, ◌/◌, ◌%◌, ◌^◌, Bool, true, ◌&&◌, List, ◌==◌, bit_or, slice_index, slice_set}
+use Rattle.std.specs.Prelude.{ℕ, zero, suc, ◌+◌, ◌-◌, ◌/◌, ◌%◌, ◌^◌, Bool, true, ◌&&◌, List, ◌==◌, bit_or, slice_index, slice_set}
 
 -- position p is bit p mod 64, the lowest first, of word p ÷ 64
 abbrev pub bit : List ℕ → ℕ → Bool

@@ -1,5 +1,5 @@
 -- What a byte budget gives to each of two generations.
-use Rattle.std.specs.Prelude.{◌≡◌, ℕ, zero, suc, ◌+◌, ◌*◌, ◌/◌, ◌^◌, ◌≤◌, max, cond}
+use Rattle.std.specs.Prelude.{◌≡◌, ℕ, zero, suc, ◌+◌, ◌*◌, ◌/◌, ◌^◌, ◌≤◌, max}
 
 -- half the budget, rounded down
 abbrev pub half : ℕ → ℕ

@@ -1,4 +1,4 @@
-ghost use Rattle.std.specs.Prelude.{◌≡◌, ℕ, ◌*◌, ◌<◌, ◌≤◌, true, ◌&&◌, ◌||◌, ltb, List, replicate, is_ok, if◌then◌else◌, vec_len, vec_capacity, MatchResult, nat_le, nat_lt};
+ghost use Rattle.std.specs.Prelude.{◌≡◌, ℕ, ◌*◌, ◌<◌, ◌≤◌, true, ◌&&◌, ◌||◌, List, replicate, is_ok, if◌then◌else◌, vec_len, vec_capacity, MatchResult, nat_le, nat_lt};
 ghost use Rattle.answers.specs.declared.Refusal.TheVariants.{HashCount, Capacity};
 ghost use Rattle.filter.specs.Filter.{Records, Emptied};
 ghost use Rattle.bloom.specs.Bits.{with_set};
@@ -27,7 +27,7 @@ impl BloomFilter {
     // An empty filter for a byte budget, with k positions from 1 to 64.
     pub fn new(budget: u32, k: u32, memory: Vec<u64>) -> Result<BloomFilter, Unmade<Vec<u64>>>
         ensures answer { is_ok result ≡ (nat_lt 0 k && (nat_le k 64 && (nat_le budget 16777216 && nat_le (words_for budget) (vec_capacity memory)))) }
-        ensures cases { MatchResult result (λ b. (b.words.items ≡ replicate (words_for budget) 0) × (b.k ≡ k)) (λ e. e ≡ record { refusal = (if ltb 0 k && nat_le k 64 then Capacity else HashCount); memory = memory }) }
+        ensures cases { MatchResult result (λ b. (b.words.items ≡ replicate (words_for budget) 0) × (b.k ≡ k)) (λ e. e ≡ record { refusal = (if nat_lt 0 k && nat_le k 64 then Capacity else HashCount); memory = memory }) }
     {
         if k == 0 || k > MAX_HASHES {
             return Err(Unmade {

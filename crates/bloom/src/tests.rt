@@ -2,7 +2,9 @@ use super::*;
 use crate::hash_counts::HASH_COUNTS;
 use answers::{Cause, Refusal};
 use filter::{ExactSet, Filter, ListingFilter, Places, TurningFilter};
-use std::test::*;
+use std::alloc::Global;
+use std::process::Abort;
+use std::test::Fail;
 
 #[test]
 fn sizes_of_budgets(rt: HostRuntime) -> Result<(), Fail> {
@@ -18,12 +20,12 @@ fn sizes_of_budgets(rt: HostRuntime) -> Result<(), Fail> {
 }
 
 // The bits that a fingerprint sets among 64, with three positions.
-fn bits_of(rt: HostRuntime, f: u64) -> Result<Option<u64>, Fail> {
-    let words = allocate_words(rt.alloc(), 0)?;
+fn bits_of(rt: &impl Abort, heap: Global, f: u64) -> Result<Option<u64>, Fail> {
+    let words = allocate_words(heap, 0)?;
     match BloomFilter::new(0, 3, words) {
         Ok(mut bloom) => {
-            assert_eq!(bloom.record(f), Ok(()));
-            assert_eq!(bloom.record(f), Err(Cause::Held));
+            assert_eq!(rt; bloom.record(f), Ok(()));
+            assert_eq!(rt; bloom.record(f), Err(Cause::Held));
             Ok(bloom.words.first().copied())
         }
         Err(_) => Ok(None),
@@ -32,9 +34,12 @@ fn bits_of(rt: HostRuntime, f: u64) -> Result<Option<u64>, Fail> {
 
 #[test]
 fn positions(rt: HostRuntime) -> Result<(), Fail> {
-    assert_eq!(rt; bits_of(rt, 5)?, Some(1 << 5 | 1 << 6 | 1 << 7));
     assert_eq!(rt;
-        bits_of(rt, 8_589_934_597)?,
+        bits_of(&rt, rt.alloc(), 5)?,
+        Some(1 << 5 | 1 << 6 | 1 << 7)
+    );
+    assert_eq!(rt;
+        bits_of(&rt, rt.alloc(), 8_589_934_597)?,
         Some(1 << 5 | 1 << 8 | 1 << 11)
     );
     Ok(())

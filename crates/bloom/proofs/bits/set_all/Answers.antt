@@ -11,12 +11,12 @@ loop-i-preserved c =
     let m = c.args.bits in
     let inv = c.loop-i.invariant in
     let e = c.next-at.ensures in (
-      e ∙ position_more m c.args.f c.loop-i.-i c.loop-i.at c.step-step.result inv.0 c.step-step.ensures.value,
+      e ∙ position_more m c.args.f c.loop-i._i c.loop-i.at c.step-step.result inv.0 c.step-step.ensures.value,
       subst (λ (x : ℕ). x < m) (sym e) (mod-lt (c.loop-i.at + c.step-step.result) (omega arith)),
-      with_more c.args.words.now c.loop-i.words c.set-bit.new.words m c.args.f c.loop-i.-i c.loop-i.at inv.2 inv.0 c.set-bit.ensures,
+      with_more c.args.words.now c.loop-i.words c.set_bit.new.words m c.args.f c.loop-i._i c.loop-i.at inv.2 inv.0 c.set_bit.ensures,
     )
 
 pub returns : goal.returns
 returns c =
-    let n : c.loop-i.-i ≡ c.args.k = omega arith in
+    let n : c.loop-i._i ≡ c.args.k = omega arith in
     c.loop-i.invariant.2 ∙ ap (with_set c.args.words.now c.args.bits c.args.f) n

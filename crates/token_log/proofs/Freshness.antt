@@ -1,12 +1,12 @@
 -- Every fresh pair is accepted, over any filter: what a log of two generations bars after calls, by what these were.
-use Rattle.std.proofs.Common.{◌≡◌, ℕ, ◌+◌, ◌*◌, ◌<◌, ◌≤◌, Bool, true, false, cond, not, ◌&&◌, ◌||◌, eqb, ltb, leb, List, [], ◌∷◌, is_ok, sym, refl, ap, ◌∙◌, ⊎_elim, arith}
-use Rattle.std.proofs.lemmas.Bool.{false≢true, true≢false, ltb-false, leb-false, eqb-false, ne_eqb, or_parts, or_from, cases_Bool, cases_lt, cond-true, cond-false}
-use Rattle.filter.specs.Filter.{Meaning, Same, Recorded, Records, Emptied, Fresh, reply}
+use Rattle.std.proofs.Common.{◌≡◌, ℕ, ◌+◌, ◌<◌, ◌≤◌, Bool, true, false, cond, ◌&&◌, eqb, List, [], ◌∷◌, is_ok, refl, ap, ◌∙◌, ⊎_elim, arith}
+use Rattle.std.proofs.lemmas.Bool.{false≢true, ltb-false, leb-false, or_parts, or_from, cases_Bool, cases_lt, cond-false}
+use Rattle.filter.specs.Filter.{Meaning, Same, Recorded, Records, Emptied, Fresh}
 use Rattle.token_log.specs.declared.two_generations.TwoGenerationLog.{TwoGenerationLog}
-use Rattle.token_log.specs.Log.{Query, Answer, issue, expiry}
+use Rattle.token_log.specs.Log.{issue, expiry}
 use Rattle.token_log.specs.Generations.{Anew, Logs, Unused}
 use Rattle.token_log.specs.Generations.Logs.{never, before, in_one, in_two, next, afresh}
-use Rattle.token_log.specs.Laws.{Call, asking, Leads, accepted, has, past, excused, Welcomed}
+use Rattle.token_log.specs.Laws.{Call, asking, Leads, accepted, has, past, Welcomed}
 use Rattle.token_log.proofs.Accounts.{takes}
 
 -- a filter after the calls ps: made for c, each accepted call took at most one of these, and while some are sure it

@@ -1,5 +1,5 @@
 -- No pair is accepted twice, of any log.
-use Rattle.std.proofs.Common.{◌≡◌, ℕ, true, false, not, List, [], ◌∷◌, is_ok, sym, refl, ap, ◌∙◌, ⊎_elim}
+use Rattle.std.proofs.Common.{◌≡◌, ℕ, true, not, List, [], ◌∷◌, is_ok, sym, ap, ◌∙◌, ⊎_elim}
 use Rattle.std.proofs.lemmas.Bool.{true≢false, cases_Bool}
 use Rattle.token_log.specs.Log.{Bars, Query, Answer, Answered}
 use Rattle.token_log.specs.Laws.{Call, Leads, Unasked, EachOnce}

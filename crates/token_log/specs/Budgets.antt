@@ -1,5 +1,5 @@
 -- The log that a byte budget gives: two generations of turning filters, a set that goes over to a Bloom filter.
-use Rattle.std.specs.Prelude.{◌≡◌, ℕ, ◌+◌, ◌*◌, Bool, cond, ◌&&◌, replicate, is_ok, vec_items, vec_len, vec_capacity, Result, MatchResult, nat_le, nat_lt}
+use Rattle.std.specs.Prelude.{◌≡◌, ℕ, ◌*◌, Bool, cond, ◌&&◌, replicate, is_ok, vec_items, vec_len, vec_capacity, Result, MatchResult, nat_le, nat_lt}
 use Rattle.answers.specs.declared.Refusal.TheVariants.{HashCount, Capacity}
 use Rattle.filter.specs.Filter.{Meaning, Fresh, exact}
 use Rattle.filter.specs.Memory.{room_of}

@@ -1,5 +1,5 @@
 -- The log of two generations: what it bars, and the full account of one call.
-use Rattle.std.specs.Prelude.{◌≡◌, ℕ, ◌+◌, ◌*◌, ◌<◌, ◌≤◌, Bool, true, false, cond, ◌||◌, Ok, Err, ◌==◌, nat_lt}
+use Rattle.std.specs.Prelude.{◌≡◌, ℕ, ◌+◌, ◌*◌, ◌<◌, ◌≤◌, Bool, false, cond, ◌||◌, Err, ◌==◌, nat_lt}
 use Rattle.answers.specs.declared.Cause.TheVariants.{ZeroLifetime, BeforePeriod}
 use Rattle.filter.specs.Filter.{Meaning, Records, Emptied, Fresh}
 use Rattle.token_log.specs.declared.two_generations.TwoGenerationLog.{TwoGenerationLog}

@@ -1,11 +1,11 @@
 -- The calls of the log under a succession of calls of the gate.
-use Rattle.std.proofs.Common.{◌≡◌, ℕ, true, false, List, [], ◌∷◌, is_ok, Some, Ok, Err, Result, sym, refl, ap, ◌∙◌, subst}
+use Rattle.std.proofs.Common.{◌≡◌, ℕ, false, List, [], ◌∷◌, is_ok, Some, Ok, Err, Result, refl, ap, ◌∙◌, subst}
 use Rattle.answers.specs.declared.Refusal.{Refusal}
 use Rattle.token_log.specs.Log.{Query, Answer}
 use Rattle.token_log.specs.Laws.{Call as Asked, Leads as LogLeads}
 use Rattle.gate.specs.Calls.{Terms, Outcome, Arrival, Judged, judge, decided}
 use Rattle.gate.specs.Calls.Judged.{settled, asks}
-use Rattle.gate.specs.Successions.{Call, Follows, Step, Succession}
+use Rattle.gate.specs.Successions.{Call, Follows, Succession}
 use Rattle.gate.specs.Successions.Call.{issuing, arriving}
 use Rattle.gate.specs.Successions.Succession.{new, then}
 use Rattle.gate.specs.Laws.{honours, honoured, carries}

@@ -1,13 +1,13 @@
 -- No token is honoured twice, since no pair is accepted twice.
-use Rattle.std.proofs.Common.{◌≡◌, ℕ, true, false, ◌⊎◌, List, [], ◌∷◌, is_ok, Some, Option, sym, refl, ap, ◌∙◌, inl, inr}
+use Rattle.std.proofs.Common.{◌≡◌, ℕ, true, ◌⊎◌, List, [], ◌∷◌, is_ok, Some, Option, sym, refl, ap, ◌∙◌, inl, inr}
 use Rattle.std.specs.List.{AllByRecursion as All}
 use Rattle.std.proofs.lemmas.Bool.{false≢true}
 use Rattle.token_log.specs.Log.{Query, Answer}
 use Rattle.token_log.specs.Laws.{Call as Asked, Unasked, EachOnce, NoPairIsAcceptedTwice}
 use Rattle.gate.specs.Calls.{Terms}
 use Rattle.gate.specs.Successions.{Call, Succession}
-use Rattle.gate.specs.Laws.{honoured, carries, Alone, Once}
-use Rattle.gate.proofs.Asking.{Mirrors, onto, Under, under}
+use Rattle.gate.specs.Laws.{honoured, carries, Once}
+use Rattle.gate.proofs.Asking.{Mirrors, onto, under}
 use Rattle.gate.proofs.Asking.Mirrors.{none, silent, asked}
 
 pub same_pair : (l s k m : ℕ) → ◌≡◌ {A = Option (ℕ × ℕ)} (Some (l, s)) (Some (k, m)) → (l ≡ k) × (s ≡ m)

@@ -1,5 +1,5 @@
 -- Every issued token in date is honoured, since every fresh pair is accepted.
-use Rattle.std.proofs.Common.{◌≡◌, ℕ, ◌+◌, ◌<◌, Bool, true, false, cond, ◌&&◌, ◌||◌, eqb, ltb, ◌⊎◌, List, [], ◌∷◌, is_ok, Some, Ok, Err, Result, sym, refl, ap, ◌∙◌, subst, inl, inr, ⊎_elim, arith}
+use Rattle.std.proofs.Common.{◌≡◌, ℕ, ◌<◌, true, cond, List, [], ◌∷◌, Some, Ok, Result, sym, refl, ap, ◌∙◌, subst, inl, inr, ⊎_elim, arith}
 use Rattle.std.proofs.lemmas.Bool.{false≢true, ltb-true, leb-true, eqb-true, and_parts, or_cases, cases_Bool}
 use Rattle.answers.specs.declared.Refusal.{Refusal}
 use Rattle.wire.specs.Content.{id_bytes}
@@ -8,19 +8,19 @@ use Rattle.sealing.specs.Tokens.{low_of, says}
 use Rattle.sealing.specs.Laws.{AWrittenTokenSaysItsContent}
 use Rattle.filter.specs.Filter.{Meaning}
 use Rattle.token_log.specs.declared.two_generations.TwoGenerationLog.{TwoGenerationLog}
-use Rattle.token_log.specs.Log.{issue, expiry}
+use Rattle.token_log.specs.Log.{expiry}
 use Rattle.token_log.specs.Generations.{Logs, Unused}
 use Rattle.token_log.specs.Laws.{Call as Asked, accepted, has, past, excused, Welcomed, EveryFreshPairIsAccepted}
-use Rattle.gate.specs.Calls.{Terms, Outcome, Issue, FitsIssue, Arrival, Judged, second, token_issued, weigh, judge}
+use Rattle.gate.specs.Calls.{Terms, Outcome, Issue, FitsIssue, Judged, second, token_issued, weigh, judge}
 use Rattle.gate.specs.Calls.Judged.{asks}
 use Rattle.gate.specs.Successions.{Call, Follows, Step, Succession}
 use Rattle.gate.specs.Successions.Call.{issuing, arriving}
 use Rattle.gate.specs.Successions.Succession.{then}
-use Rattle.gate.specs.Laws.{honours, honoured, carries, pair_of, Each, Exists, Due, Takes, Passes, honoured_among, Stands, Met, AnIssuedTokenCarriesItsPair, ARetryTokenValidatesItsAddress}
+use Rattle.gate.specs.Laws.{honours, pair_of, Each, Exists, Takes, Passes, honoured_among, Stands, Met, AnIssuedTokenCarriesItsPair, ARetryTokenValidatesItsAddress}
 use Rattle.gate.specs.Laws.Stands.{is_honoured, low_taken, time_passed, sure_spent}
 use Rattle.gate.proofs.Writing.{issued_of, retried_of}
 use Rattle.gate.proofs.Judging.{due_asks, due_validated, judge-admitted, unrefused}
-use Rattle.gate.proofs.Asking.{Mirrors, onto, honours-decided, Under, under}
+use Rattle.gate.proofs.Asking.{Mirrors, onto, honours-decided, under}
 use Rattle.gate.proofs.Asking.Mirrors.{none, silent, asked}
 
 -- the newest call, after those before it

@@ -17,7 +17,7 @@ use Rattle.sealing.specs.declared.token.Nonce.{Nonce}
 use Rattle.sealing.specs.declared.token.Unsealed.{Unsealed}
 use Rattle.sealing.specs.Sealing.{Image, Opening}
 use Rattle.sealing.specs.Tokens.{token_for, low_of, says, wiped}
-use Rattle.token_log.specs.Log.{Query, Answer, expiry}
+use Rattle.token_log.specs.Log.{Answer, expiry}
 use Rattle.gate.specs.declared.verdict.Verdict.{Verdict}
 use Rattle.gate.specs.declared.verdict.Verdict.TheVariants.{Validated, Unvalidated, Rejected}
 use Rattle.gate.specs.declared.verdict.Arrived.{Arrived}

@@ -1,4 +1,4 @@
-use Rattle.std.proofs.Common.{◌≡◌, length, Ok, Err, sym, refl, ap, ◌∙◌}
+use Rattle.std.proofs.Common.{◌≡◌, Ok, Err, sym, refl, ap, ◌∙◌}
 use Rattle.std.proofs.lemmas.Result.{err_from_is_err_and}
 use Rattle.wire.specs.Content.{id_bytes}
 use Rattle.gate.specs.Calls.{Terms, Arrival, arrival_of, judged_by, outcome, told, owed, working_after}
@@ -7,17 +7,17 @@ use Rattle.gate.specs.Successions.Call.{arriving}
 use Rattle.gate.proofs.Stepping.{admits, step_refused, step-admitted, adds}
 use Rattle.gate.proofs.Gate.arrive.Goals as goal
 
-pub returns-in-err-here : goal.returns-in-err-here
-returns-in-err-here g c =
+pub returns-in_err-here : goal.returns-in_err-here
+returns-in_err-here g c =
     let gate = c.args.self.now in
     let image = g.S.SealingScheme.image in
     let opened = g.S.SealingScheme.opened in
     let R = g.L.TokenLog.logs in
     let t : Terms = terms image opened gate in
     let x : Arrival = arrival_of c.args.token.now c.args.destination.now c.args.address c.args.clock c.args.working.now in
-    let r = c.from-residual.result in
-    let p = err_from_is_err_and r c.from-residual.ensures.1 in
-    let h = ap Err p.2 ∙ c.in-err-here.ensures.id in
+    let r = c.from_residual.result in
+    let p = err_from_is_err_and r c.from_residual.ensures.1 in
+    let h = ap Err p.2 ∙ c.in_err-here.ensures.id in
     let e = p.1 in
     let m : Unmoved gate gate = record { scheme = refl; retry = refl; validation = refl } in
     let w = step_refused R t x p.0 (told r) gate.log h (ap told e) in
@@ -32,9 +32,9 @@ returns g c =
     let t : Terms = terms image opened gate in
     let token = c.args.token.now in
     let d = c.args.destination.now in
-    let id = id_bytes c.in-ok-here.here in
+    let id = id_bytes c.in_ok-here.here in
     let x : Arrival = arrival_of token d c.args.address c.args.clock c.args.working.now in
-    let h = c.in-ok-here.ensures.id in
+    let h = c.in_ok-here.ensures.id in
     let e : id ≡ d = admits x.working x.clock d id h in
     let gate' = c.decide-verdict.new.self in
     let m = c.decide-verdict.ensures.kept in

@@ -4,4 +4,4 @@ use Rattle.gate.proofs.laws.an_issued_token_carries_its_low_half_and_second.Goal
 
 pub returns : goal.returns
 returns g c =
-    carries_issued (terms g.S.SealingScheme.image g.S.SealingScheme.opened c.args.gate.now) c.a-written-token-says-its-content.ensures
+    carries_issued (terms g.S.SealingScheme.image g.S.SealingScheme.opened c.args.gate.now) c.a_written_token_says_its_content.ensures

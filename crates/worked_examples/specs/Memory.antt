@@ -1,5 +1,5 @@
 -- Worked examples of what is remembered: the log, sizes and positions of filters, the client's cache.
-use Rattle.std.specs.Prelude.{◌≡◌, ℕ, ◌/◌, List, [], ◌∷◌, map, Ok, Err}
+use Rattle.std.specs.Prelude.{◌≡◌, ℕ, List, [], ◌∷◌, map, Ok, Err}
 use Rattle.answers.specs.declared.Cause.TheVariants.{Held, BeforePeriod}
 use Rattle.filter.specs.Filter.{Meaning, exact}
 use Rattle.bloom.specs.Sizes.{half, Largest}

@@ -7,7 +7,7 @@ use Rattle.wire.specs.Content.{Content, encode_content}
 use Rattle.wire.specs.Content.Content.{retry, validation}
 use Rattle.sealing.specs.Bench.{bench_image, bench_opened}
 use Rattle.sealing.specs.Tokens.{token_for}
-use Rattle.gate.specs.Calls.{Terms, Arrival, Outcome, outcome_number, judge}
+use Rattle.gate.specs.Calls.{Terms, Arrival, outcome_number, judge}
 use Rattle.gate.specs.Calls.Outcome.{validated, rejected}
 use Rattle.gate.specs.Calls.Judged.{settled}
 

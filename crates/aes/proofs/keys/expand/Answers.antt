@@ -8,7 +8,7 @@ loop-i-init c = refl
 
 pub loop-i-preserved : goal.loop-i-preserved
 unfolding key_words
-loop-i-preserved c = simp (add-one, ← c.loop-i.invariant, c.from-be-bytes.ensures)
+loop-i-preserved c = simp (add-one, ← c.loop-i.invariant, c.from_be_bytes.ensures)
 
 pub loop-n-init : goal.loop-n-init
 unfolding expand

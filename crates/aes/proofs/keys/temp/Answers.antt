@@ -6,11 +6,11 @@ use Rattle.aes.proofs.keys.temp.Goals as goal
 
 pub returns-then-i-eq0 : goal.returns-then-i-eq0
 returns-then-i-eq0 c =
-    ap₂ bit_xor (c.sub-word.ensures ∙ ap sub_word (c.rotate-left.ensures ∙ rot_word_lem _ (omega arith))) (round_constant _ (omega arith) (omega arith))
+    ap₂ bit_xor (c.sub_word.ensures ∙ ap sub_word (c.rotate_left.ensures ∙ rot_word_lem _ (omega arith))) (round_constant _ (omega arith) (omega arith))
     ∙ sym (temp_first _ _ c.if-i-eq0.true)
 
 pub returns-then-i-eq-MIDDLE : goal.returns-then-i-eq-MIDDLE
-returns-then-i-eq-MIDDLE c = c.sub-word-then-i-eq-MIDDLE.ensures ∙ sym (temp_middle _ _ c.if-i-eq-MIDDLE.true)
+returns-then-i-eq-MIDDLE c = c.sub_word-then-i-eq-MIDDLE.ensures ∙ sym (temp_middle _ _ c.if-i-eq-MIDDLE.true)
 
 pub returns-else-i-eq-MIDDLE : goal.returns-else-i-eq-MIDDLE
 returns-else-i-eq-MIDDLE c = sym (temp_other _ _ c.if-i-eq0.false c.if-i-eq-MIDDLE.false)

@@ -7,10 +7,10 @@ loop-n-init c = rounds_none _ _
 
 pub loop-n-preserved : goal.loop-n-preserved
 loop-n-preserved c =
-    rounds_more c.args.self.now.round_keys c.round-next.result c.loop-n.state c.add-round-key-state.result c.loop-n.n
+    rounds_more c.args.self.now.round_keys c.round-next.result c.loop-n.state c.add_round_key-state.result c.loop-n.n
     (omega arith) c.round-next.ensures c.loop-n.invariant
 
 pub returns : goal.returns
 returns c =
-    rounds-all c.args.self.now.round_keys c.add-round-key.result c.substituted.result c.loop-n.state c.add-round-key-state.result c.args.block c.loop-n.n
-    c.add-round-key.ensures c.substituted.ensures c.loop-n.invariant (omega arith) c.add-round-key-state.ensures
+    rounds-all c.args.self.now.round_keys c.add_round_key.result c.substituted.result c.loop-n.state c.add_round_key-state.result c.args.block c.loop-n.n
+    c.add_round_key.ensures c.substituted.ensures c.loop-n.invariant (omega arith) c.add_round_key-state.ensures

@@ -1,5 +1,5 @@
 -- The hash values after the pads stand for the key.
-use Rattle.std.proofs.Common.{◌≡◌, ℕ, ◌+◌, ◌-◌, ◌<◌, ◌≤◌, Bool, true, false, cond, ltb, List, [], ◌∷◌, ◌++◌, map, length, take, drop, set, replicate, sym, refl, ap, ◌∙◌, ap₂, arith}
+use Rattle.std.proofs.Common.{◌≡◌, ℕ, ◌+◌, ◌-◌, ◌<◌, ◌≤◌, Bool, true, false, cond, ltb, List, [], ◌∷◌, ◌++◌, length, take, drop, set, replicate, sym, refl, ap, ◌∙◌, ap₂, arith}
 use lib.Bits.{bit_xor}
 use borrow.Rule.Slice.PartMut.{post_of}
 use Rattle.std.proofs.lemmas.List.{length-append, length-map, length-replicate, drop-replicate}
@@ -8,7 +8,6 @@ use Rattle.sha256.specs.Constants.{initial}
 use Rattle.sha256.specs.Block.{compressed}
 use Rattle.sha256.specs.Digest.{digest, digest_from}
 use Rattle.sha256.specs.Hmac.{shortened, key_block, key_pad, hmac, signed}
-use Rattle.sha256.specs.declared.hmac.HmacKey.{HmacKey}
 use Rattle.sha256.proofs.Padding.{marked, marked_front}
 use Rattle.sha256.proofs.Absorbing.{digest_block, length-digest}
 

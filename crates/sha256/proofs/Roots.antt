@@ -1,5 +1,5 @@
 -- The constants are root fractions.
-use Rattle.std.proofs.Common.{◌≡◌, ℕ, zero, suc, ◌+◌, ◌*◌, ◌%◌, ◌^◌, ◌<◌, ◌≤◌, Bool, true, false, cond, T, ltb, leb, List, map, length, get_or, take, sym, refl, ap, ◌∙◌, subst, add_assoc, arith, lit≤, ltb→lt, leb→le}
+use Rattle.std.proofs.Common.{◌≡◌, ℕ, zero, suc, ◌+◌, ◌*◌, ◌^◌, ◌<◌, ◌≤◌, Bool, true, false, cond, T, ltb, leb, map, length, get_or, take, sym, refl, ap, ◌∙◌, subst, add_assoc, arith, ltb→lt, leb→le}
 use native.Mathlib.Nat.{two-pow-succ}
 use Rattle.std.proofs.lemmas.List.{get_or-map, get_or-take}
 use Rattle.std.proofs.lemmas.Bool.{leb-false}

@@ -2,7 +2,7 @@
 use Rattle.std.proofs.Common.{◌≡◌, ℕ, zero, suc, ◌+◌, ◌-◌, ◌<◌, ◌≤◌, List, length, get_or, set, replicate, sym, refl, ap, ◌∙◌, subst, inl, inr, add-one, arith, lit≤, length-set, get_or-set_other, get_or-set_same}
 use Rattle.std.proofs.lemmas.Bool.{cases_eq}
 use Rattle.sha256.specs.Block.{word_at, words, next_word, extended, schedule}
-use Rattle.sha256.specs.Laws.{Scheduled, EverySchedule}
+use Rattle.sha256.specs.Laws.{EverySchedule}
 
 length-words : (n : ℕ) (b ws : List ℕ) → length (words n b ws) ≡ length ws
 unfolding words

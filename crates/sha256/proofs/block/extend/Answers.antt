@@ -8,4 +8,4 @@ loop-n-init c = refl
 
 pub loop-n-preserved : goal.loop-n-preserved
 unfolding extended
-loop-n-preserved c = simp (add-one, ← c.loop-n.invariant, c.next-word.ensures)
+loop-n-preserved c = simp (add-one, ← c.loop-n.invariant, c.next_word.ensures)

@@ -8,4 +8,4 @@ loop-i-init c = refl
 
 pub loop-i-preserved : goal.loop-i-preserved
 unfolding words
-loop-i-preserved c = simp (add-one, ← c.loop-i.invariant, c.from-be-bytes.ensures)
+loop-i-preserved c = simp (add-one, ← c.loop-i.invariant, c.from_be_bytes.ensures)

@@ -1,4 +1,4 @@
-use Rattle.std.proofs.Common.{◌≡◌, ℕ, length, get_or, sym, refl, ◌∙◌, arith}
+use Rattle.std.proofs.Common.{ℕ, get_or, sym, refl, ◌∙◌, arith}
 use lib.Bits.{bit_xor}
 use lib.ListN.{length-map}
 use Rattle.std.proofs.lemmas.List.{ext_get_or, get_or-map}

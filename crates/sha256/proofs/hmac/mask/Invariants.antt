@@ -1,4 +1,4 @@
-use Rattle.std.proofs.Common.{ℕ, get_or}
+use Rattle.std.proofs.Common.{get_or}
 use lib.Bits.{bit_xor}
 use Rattle.answers.proofs.Filling.{Filled}
 use Rattle.sha256.proofs.hmac.mask.Given as goal

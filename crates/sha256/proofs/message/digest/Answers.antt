@@ -8,4 +8,4 @@ unfolding initial primes
 returns c =
     let m = c.args.message.now in
     let n : 0 + length m ≡ length m = omega arith in
-    c.digest-after.ensures ∙ ap (λ (k : ℕ). digest_from initial k m) n
+    c.digest_after.ensures ∙ ap (λ (k : ℕ). digest_from initial k m) n

@@ -9,4 +9,4 @@ returns c =
     let last = c.pad-end.new.last in
     let zero : end - 0 ≡ end = omega arith in
     let all : take (end - 0) (drop 0 last) ≡ c.args.tail.now ++ padding c.args.total = ap (λ (n : ℕ). take n last) zero ∙ c.pad-end.ensures.laid in
-    c.to-bytes.ensures ∙ ap bytes_of (c.absorb.ensures ∙ ap (λ (bs : List ℕ). absorbed (length bs / 64) bs c.args.value) all)
+    c.to_bytes.ensures ∙ ap bytes_of (c.absorb.ensures ∙ ap (λ (bs : List ℕ). absorbed (length bs / 64) bs c.args.value) all)

@@ -8,6 +8,6 @@ returns c =
     let end = (length tail + 8) / 64 * 64 + 64 in
     record {
       bound = omega arith;
-      laid = laid 128 c.args.last.now tail c.copy-from-slice.new.self c.copy-from-slice-2.new.self c.args.total end (end - (end - 8))
-          refl c.requires.blank c.requires.short c.requires.whole refl c.copy-from-slice.ensures.after (c.copy-from-slice-2.ensures.after ∙ c.to-be-bytes.ensures);
+      laid = laid 128 c.args.last.now tail c.copy_from_slice.new.self c.copy_from_slice-2.new.self c.args.total end (end - (end - 8))
+          refl c.requires.blank c.requires.short c.requires.whole refl c.copy_from_slice.ensures.after (c.copy_from_slice-2.ensures.after ∙ c.to_be_bytes.ensures);
     }

@@ -11,13 +11,13 @@ returns c =
     let info = c.args.info.now in
     let inner = c.args.self.now.inner in
     let one : List ℕ = 1 ∷ [] in
-    let tail = c.last-info-tail.result in
+    let tail = c.last_info-tail.result in
     let q = length info / 64 in
     let at : q * 64 ≡ 64 * q = omega arith in
     let rest : take (length info - q * 64) (drop (q * 64) info) ≡ drop (64 * q) info = take_rest info (q * 64) ∙ ap (λ (k : ℕ). drop k info) at in
     let len : length info - q * 64 + 1 - 0 ≡ length (take (length info - q * 64) (drop (q * 64) info)) + 1 = omega (arith, ap length rest, length-drop (64 * q) info) in
     let laid : take (length info - q * 64 + 1 - 0) (drop 0 tail) ≡ drop (64 * q) info ++ one =
-    ap (λ (k : ℕ). take k tail) len ∙ c.last-info-tail.ensures ∙ ap (λ (r : List ℕ). r ++ one) rest in
+    ap (λ (k : ℕ). take k tail) len ∙ c.last_info-tail.ensures ∙ ap (λ (r : List ℕ). r ++ one) rest in
     let n = 65 + length info in
     let total : n ≡ 64 + length (info ++ one) = omega (arith, length-append info one) in
     let first : c.finish-inner.result ≡ digest_from inner (64 + length (info ++ one)) (info ++ one) =
@@ -25,4 +25,4 @@ returns c =
     ∙ ap₂ (λ (v r : List ℕ). digest_from v n r) c.absorb.ensures laid
     ∙ sym (digest_front q n inner info one (omega arith)) ∙ ap (λ (k : ℕ). digest_from inner k (info ++ one)) total in
     let end : 64 + length c.finish-inner.result ≡ 96 = omega arith in
-    c.digest-after.ensures ∙ ap₂ (digest_from c.args.self.now.outer) end first
+    c.digest_after.ensures ∙ ap₂ (digest_from c.args.self.now.outer) end first

@@ -11,5 +11,5 @@ unfolding initial primes key_pad
 returns c =
     let pad : ℕ → List ℕ → List ℕ = λ p b. map (λ x. bit_xor x p) b in
     λ m. keyed c.args.key.now c.compress.result c.compress-2.result m
-    (c.compress.ensures ∙ ap (compressed initial) (c.mask.ensures ∙ ap (pad 0x36) c.key-block-block.ensures))
-    (c.compress-2.ensures ∙ ap (compressed initial) (c.mask-2.ensures ∙ ap (pad 0x5c) c.key-block-block.ensures))
+    (c.compress.ensures ∙ ap (compressed initial) (c.mask.ensures ∙ ap (pad 0x36) c.key_block-block.ensures))
+    (c.compress-2.ensures ∙ ap (compressed initial) (c.mask-2.ensures ∙ ap (pad 0x5c) c.key_block-block.ensures))

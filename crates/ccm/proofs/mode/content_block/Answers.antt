@@ -9,6 +9,6 @@ returns c =
     let content = c.args.content.now in
     let n = c.args.n in
     let len = c.min-len.result in
-    block_laid 16 content c.copy-from-slice.new.self n len refl
-    (c.copy-from-slice.ensures.after ∙ ap (λ (k : ℕ). take k (drop (16 * n) content)) (let e : 16 * n + len - 16 * n ≡ len = omega arith in e))
+    block_laid 16 content c.copy_from_slice.new.self n len refl
+    (c.copy_from_slice.ensures.after ∙ ap (λ (k : ℕ). take k (drop (16 * n) content)) (let e : 16 * n + len - 16 * n ≡ len = omega arith in e))
     c.min-len.ensures

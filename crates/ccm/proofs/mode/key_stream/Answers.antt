@@ -14,10 +14,10 @@ loop-j-preserved c =
     let j = c.loop-j.j in
     let p : (16 * n + j) / 16 ≡ n = omega arith in
     let q : (16 * n + j) % 16 ≡ j = omega arith in
-    let v : get_or c.encrypt-block-block.result j 0 ≡ stream_at E (16 * n + j) = simp (p, q, c.encrypt-block-block.ensures, c.headed.ensures) in
+    let v : get_or c.encrypt_block-block.result j 0 ≡ stream_at E (16 * n + j) = simp (p, q, c.encrypt_block-block.ensures, c.headed.ensures) in
     let next : 16 * n + j + 1 ≡ 16 * n + (j + 1) = omega arith in
-    subst (λ (k : ℕ). Filled (stream_at E) 64 (set c.loop-j.stream (16 * n + j) (get_or c.encrypt-block-block.result j 0)) k) next
-    (filled_more (stream_at E) 64 c.loop-j.stream (16 * n + j) (get_or c.encrypt-block-block.result j 0) (omega arith) v c.loop-j.invariant)
+    subst (λ (k : ℕ). Filled (stream_at E) 64 (set c.loop-j.stream (16 * n + j) (get_or c.encrypt_block-block.result j 0)) k) next
+    (filled_more (stream_at E) 64 c.loop-j.stream (16 * n + j) (get_or c.encrypt_block-block.result j 0) (omega arith) v c.loop-j.invariant)
 
 pub loop-n-preserved : goal.loop-n-preserved
 loop-n-preserved c =

@@ -8,10 +8,10 @@ loop-n-init c = refl
 
 pub loop-n-preserved : goal.loop-n-preserved
 unfolding chained
-loop-n-preserved c = simp (add-one, ← c.loop-n.invariant, c.encrypt-block-next.ensures, c.xor.ensures, c.content-block.ensures)
+loop-n-preserved c = simp (add-one, ← c.loop-n.invariant, c.encrypt_block-next.ensures, c.xor.ensures, c.content_block.ensures)
 
 pub returns : goal.returns
 unfolding mac
 returns c =
     let all : c.loop-n.n ≡ (length c.args.content.now + 15) / 16 = omega arith in
-    simp (← all, c.loop-n.invariant, c.encrypt-block-x.ensures, c.headed.ensures)
+    simp (← all, c.loop-n.invariant, c.encrypt_block-x.ensures, c.headed.ensures)

@@ -9,7 +9,7 @@ pub returns : goal.returns
 unfolding cipher_for
 returns c =
     let working = c.args.working.now in
-    let key = c.copy-from-slice.new.self in
+    let key = c.copy_from_slice.new.self in
     record {
       cipher = ap cipher (c.new.ensures ∙ ap key_expansion c.expand-key.ensures);
       front = take-put_mid_below 64 32 working key 64 (omega arith) (omega arith);

@@ -20,8 +20,8 @@ returns c =
     let tag : c.tag.result ≡ tag_of E m = c.tag.ensures ∙ ap (tag_of E) there in
     record {
       fits = (
-        λ t. tag_fits E b c.requires.long (sym (take_rest b n) ∙ c.same-tag.ensures.0 t ∙ tag),
-        λ e. c.same-tag.ensures.1 (take_rest b n ∙ fits_tag E b c.requires.long e ∙ sym tag),
+        λ t. tag_fits E b c.requires.long (sym (take_rest b n) ∙ c.same_tag.ensures.0 t ∙ tag),
+        λ e. c.same_tag.ensures.1 (take_rest b n ∙ fits_tag E b c.requires.long e ∙ sym tag),
       );
       after = after;
     }

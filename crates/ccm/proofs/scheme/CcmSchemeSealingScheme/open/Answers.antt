@@ -25,22 +25,22 @@ returns-then-sealed-lt-TAG c =
       left = left_same b c.args.working.now (ccm_opened secret n b) out none;
     }
 
-pub returns-then-not-open-with : goal.returns-then-not-open-with
-returns-then-not-open-with c =
+pub returns-then-not-open_with : goal.returns-then-not-open_with
+returns-then-not-open_with c =
     let secret = c.args.self.now.secret in
     let n = c.args.nonce.now in
     let b = c.args.sealed.now in
     let was = c.args.working.now in
     let opened = ccm_opened secret n in
     let fits : Cipher → Type 0 = λ E. sealed E (unmasked E b) ≡ b in
-    let apart = not_from_Decides c.open-with.result c.open-with.ensures.fits c.if-not-open-with.true in
+    let apart = not_from_Decides c.open_with.result c.open_with.ensures.fits c.if-not-open_with.true in
     let none = none_fitting secret n b (λ e. apart (subst fits (sym c.derive-aes.ensures.cipher) e)) in
     let is = c.derive-aes.new.working in
     let E = cipher_for secret n in
     let m = unmasked E b in
     let l : length m ≡ length b - 16 = length-unmasked E b (omega arith) in
-    let after : c.open-with.new.working ≡ fronted m is =
-    c.open-with.ensures.after ∙ ap (λ (C : Cipher). fronted (unmasked C b) is) c.derive-aes.ensures.cipher in
+    let after : c.open_with.new.working ≡ fronted m is =
+    c.open_with.ensures.after ∙ ap (λ (C : Cipher). fronted (unmasked C b) is) c.derive-aes.ensures.cipher in
     let left : c.wipe.new.working ≡ wiped was = c.wipe.ensures ∙ ap wiped after ∙ wiped-fronted m was is (omega arith) c.derive-aes.ensures.past in
     record {
       opens = subst (λ (w : List ℕ). Opens opened b was w (Ok None)) (sym left) (unopened_wiped was (omega arith) opened b none);
@@ -59,10 +59,10 @@ returns c =
     let m = unmasked E b in
     let l : length m ≡ length b - 16 = length-unmasked E b (omega arith) in
     let fits : Cipher → Type 0 = λ E. sealed E (unmasked E b) ≡ b in
-    let same : sealed E m ≡ b = subst fits c.derive-aes.ensures.cipher (c.open-with.ensures.fits.0 c.if-not-open-with.false) in
+    let same : sealed E m ≡ b = subst fits c.derive-aes.ensures.cipher (c.open_with.ensures.fits.0 c.if-not-open_with.false) in
     let some : opened b ≡ Some m = opens_fitting secret n b (omega arith) (omega arith) same in
-    let left : c.wipe-key.new.working ≡ keyless (fronted m was) =
-    c.wipe-key.ensures ∙ ap keyless (c.open-with.ensures.after ∙ ap (λ (C : Cipher). fronted (unmasked C b) is) c.derive-aes.ensures.cipher)
+    let left : c.wipe_key.new.working ≡ keyless (fronted m was) =
+    c.wipe_key.ensures ∙ ap keyless (c.open_with.ensures.after ∙ ap (λ (C : Cipher). fronted (unmasked C b) is) c.derive-aes.ensures.cipher)
     ∙ fronted_same m was is (omega arith) c.derive-aes.ensures.front c.derive-aes.ensures.past in
     record {
       opens = subst (λ (w : List ℕ). Opens opened b was w (Ok (Some (length b - 16)))) (sym left) (opened_left was (omega arith) opened b m (length b - 16) l (omega arith) some);

@@ -15,12 +15,12 @@ returns c =
     let out = c.args.out.now in
     let front = c.derive-aes.ensures.front in
     let past = c.derive-aes.ensures.past in
-    let left : c.wipe-key.new.working ≡ keyless was = c.wipe-key.ensures ∙ keyless_same was is (omega arith) front past in
-    let after : c.seal-with.new.out ≡ fronted (image (take (len - 0) (drop 0 is))) out =
-    c.seal-with.ensures ∙ ap (λ (E : Cipher). fronted (sealed E (take (len - 0) (drop 0 is))) out) c.derive-aes.ensures.cipher in
+    let left : c.wipe_key.new.working ≡ keyless was = c.wipe_key.ensures ∙ keyless_same was is (omega arith) front past in
+    let after : c.seal_with.new.out ≡ fronted (image (take (len - 0) (drop 0 is))) out =
+    c.seal_with.ensures ∙ ap (λ (E : Cipher). fronted (sealed E (take (len - 0) (drop 0 is))) out) c.derive-aes.ensures.cipher in
     record {
-      seals = subst (λ (w : List ℕ). Seals image len was w out c.seal-with.new.out (Ok (len + 16))) (sym left)
-          (sealed-left was (omega arith) image (take (len - 0) (drop 0 is)) out c.seal-with.new.out len (omega arith) (omega arith)
+      seals = subst (λ (w : List ℕ). Seals image len was w out c.seal_with.new.out (Ok (len + 16))) (sym left)
+          (sealed-left was (omega arith) image (take (len - 0) (drop 0 is)) out c.seal_with.new.out len (omega arith) (omega arith)
           (content_stays was is (omega arith) front past len (omega arith)) after);
       left = left;
     }

@@ -1,11 +1,11 @@
 -- What a call leaves in the working bytes.
-use Rattle.std.proofs.Common.{◌≡◌, ℕ, ◌+◌, ◌-◌, ◌<◌, ◌≤◌, Bool, true, false, cond, ◌||◌, ltb, ◌⊎◌, List, ◌++◌, length, take, drop, replicate, Some, None, Ok, Err, Option, sym, refl, ap, ◌∙◌, ap₂, inl, inr, arith}
+use Rattle.std.proofs.Common.{◌≡◌, ℕ, ◌+◌, ◌-◌, ◌<◌, ◌≤◌, Bool, true, false, ◌||◌, ltb, ◌⊎◌, List, ◌++◌, length, take, drop, replicate, Some, None, Ok, Option, sym, refl, ap, ◌∙◌, ap₂, inl, inr, arith}
 use Rattle.std.proofs.lemmas.List.{append_assoc, length-append, length-take-le, length-drop, take-take, take_at, drop_at, drop-take}
 use lib.Seq.{take-append-add}
 use Rattle.std.proofs.lemmas.Slice.{drop-append-drop}
 use Rattle.std.proofs.lemmas.Bool.{le-ltb, lt-ltb, or_from, cond-false, cond-true}
 use Rattle.answers.specs.Buffers.{fronted}
-use Rattle.sealing.specs.Sealing.{Seals, Opens, sealing}
+use Rattle.sealing.specs.Sealing.{Seals, Opens}
 use Rattle.sealing.specs.Tokens.{wiped}
 use Rattle.ccm.specs.Scheme.{keyless, left}
 

@@ -1,6 +1,5 @@
 -- CCM as a sealing scheme: each nonce has a key of its own, one step of HKDF's expansion of the secret.
-use Rattle.std.specs.Prelude.{◌≡◌, ℕ, ◌+◌, ◌-◌, cond, ◌||◌, List, [], ◌∷◌, ◌++◌, length, take, drop, replicate, is_ok, Some, None, Ok, Err, Option, Result, nat_lt}
-use Rattle.answers.specs.declared.Refusal.{Refusal}
+use Rattle.std.specs.Prelude.{ℕ, cond, ◌||◌, List, [], ◌∷◌, ◌++◌, length, take, drop, replicate, Some, None, Option, nat_lt}
 use Rattle.answers.specs.Buffers.{fronted}
 use Rattle.sealing.specs.Sealing.{Image, Opening, open_by}
 use Rattle.sealing.specs.Tokens.{wiped}

@@ -1,14 +1,11 @@
 -- Opening undoes sealing, and what a call leaves in the working bytes.
-use Rattle.std.specs.Prelude.{◌≡◌, ℕ, ◌+◌, ◌-◌, ◌<◌, ◌≤◌, Bool, true, false, cond, not, ◌||◌, ◌⊎◌, List, ◌++◌, length, replicate, Some, None, ◌≢◌, refl}
-use Rattle.std.proofs.Common.{sym, ap, ap₂, ◌∙◌, inl, inr, ⊎_elim, arith}
-use Rattle.std.proofs.lemmas.List.{length-append, length-take-le, length-drop, take_at, drop_at, take-append-le, drop-append-le, drop-take}
+use Rattle.std.specs.Prelude.{◌≡◌, ℕ, ◌<◌, ◌≤◌, ◌⊎◌, List, length, Some, None, ◌≢◌}
+use Rattle.std.proofs.Common.{sym, ap, ◌∙◌, ⊎_elim, arith}
 use Rattle.sha256.specs.declared.hmac.HmacKey.{HmacKey}
-use Rattle.answers.specs.Buffers.{fronted}
 use Rattle.sealing.specs.Sealing.{Undoes}
-use Rattle.sealing.specs.Tokens.{wiped}
 use Rattle.sealing.specs.Openings.{undone, none_opens}
 use Rattle.ccm.specs.Mode.{sealed, unmasked}
-use Rattle.ccm.specs.Scheme.{cipher_for, ccm_image, ccm_opened, keyless, left}
+use Rattle.ccm.specs.Scheme.{cipher_for, ccm_image, ccm_opened}
 use Rattle.ccm.specs.Openings.{length-sealed, unmasked-sealed, length-unmasked}
 
 module _ (secret : HmacKey) where

@@ -1,4 +1,4 @@
-use Rattle.std.proofs.Common.{◌≡◌, ◌+◌, ◌-◌, ◌/◌, length, refl, add-one, arith}
+use Rattle.std.proofs.Common.{◌≡◌, ◌+◌, ◌/◌, length, refl, add-one, arith}
 use Rattle.ccm.specs.Mode.{chained, mac}
 use Rattle.ccm.proofs.mode.mac.Goals as goal
 

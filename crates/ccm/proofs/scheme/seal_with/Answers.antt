@@ -1,5 +1,4 @@
-use Rattle.std.proofs.Common.{◌≡◌, ℕ, ◌+◌, ◌-◌, List, ◌++◌, length, sym, refl, ap, ◌∙◌, arith}
-use borrow.Rule.Slice.PartMut.{put_mid}
+use Rattle.std.proofs.Common.{◌≡◌, ℕ, ◌+◌, ◌-◌, ◌++◌, length, sym, ap, ◌∙◌, arith}
 use Rattle.answers.specs.Buffers.{pasted}
 use Rattle.answers.proofs.Buffers.{put_pasted, pasted-pasted, pasted_front}
 use Rattle.aes.specs.Cipher.{cipher}

@@ -3,11 +3,12 @@
 # Prints hundredths of a nanosecond, and after `to` a byte that all three must come to.
 set -euo pipefail
 cd "$(dirname "$0")/.."
-rt check ccm_bench >/dev/null
+mkdir -p target
+(cd crates/ccm_bench && rt run >/dev/null)
 gcc -O3 -o target/ccm_c bench/ccm.c -lcrypto
 for _ in 1 2 3; do
     echo "ours"
-    target/bin/ccm_bench run
+    crates/ccm_bench/out/ccm_bench run
     echo "C and OpenSSL"
     target/ccm_c
 done

@@ -2,11 +2,12 @@
 # Measures the exact set beside Rust's HashSet: needs the Rattle kit and rustc. Prints hundredths of a nanosecond.
 set -euo pipefail
 cd "$(dirname "$0")/.."
-rt check filter_bench >/dev/null
+mkdir -p target
+(cd crates/filter_bench && rt run >/dev/null)
 rustc -O -o target/filters bench/filters.rs
 for _ in 1 2 3; do
     echo "exact set"
-    target/bin/filter_bench run
+    crates/filter_bench/out/filter_bench run
     echo "HashSet"
     target/filters
 done

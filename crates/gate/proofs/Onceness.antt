@@ -1,6 +1,6 @@
 -- No token is honoured twice, since no pair is accepted twice.
 use Rattle.std.proofs.Common.{◌≡◌, ℕ, true, ◌⊎◌, List, [], ◌∷◌, is_ok, Some, Option, sym, refl, ap, ◌∙◌, inl, inr}
-use Rattle.std.specs.List.{AllByRecursion as All}
+use Rattle.std.specs.List.{AllByRecursion}
 use Rattle.std.proofs.lemmas.Bool.{false≢true}
 use Rattle.token_log.specs.Log.{Query, Answer}
 use Rattle.token_log.specs.Laws.{Call as Asked, Unasked, EachOnce, NoPairIsAcceptedTwice}
@@ -37,7 +37,7 @@ unasked (k ∷ ks) zs low issued e a = (
 
 module _ (t : Terms) where
   apart_from : (x : Call) (low issued : ℕ) (xs : List Call) (ks : List Asked) → carries t x ≡ Some (low, issued) → Mirrors t xs ks → Unasked low issued ks
-      → All (λ y. honoured y ≡ true → carries t y ≡ carries t x → ⊥) xs
+      → AllByRecursion (λ y. honoured y ≡ true → carries t y ≡ carries t x → ⊥) xs
   apart_from x low issued [] ks c none u = tt
   apart_from x low issued (y ∷ ys) ks c (silent h m) u = ((λ e _. false≢true (sym h ∙ e)), apart_from x low issued ys ks c m u)
   apart_from x low issued (y ∷ ys) (k ∷ ks) c (asked h p m) u = (

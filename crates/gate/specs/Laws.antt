@@ -1,6 +1,6 @@
 -- The laws of a gate, over whole successions of calls.
 use Rattle.std.specs.Prelude.{◌≡◌, ℕ, ◌+◌, ◌<◌, ◌≤◌, Bool, true, false, cond, ◌⊎◌, List, [], ◌∷◌, is_ok, Some, None, Ok, Err, Option, Result, ◌≢◌}
-use Rattle.std.specs.List.{AllByRecursion as All}
+use Rattle.std.specs.List.{AllByRecursion}
 use Rattle.answers.specs.declared.Cause.{Cause}
 use Rattle.answers.specs.declared.Refusal.{Refusal}
 use Rattle.wire.specs.Content.{Content, id_bytes}
@@ -57,7 +57,7 @@ Exists P (x ∷ xs) = P x ⊎ Exists P xs
 -- a call carries a pair, and no honoured one before it carries the same
 pub record Alone (t : Terms) (x : Call) (earlier : List Call) : Type 0 where
   pub pair : (p : ℕ × ℕ) × (carries t x ≡ Some p)
-  pub others : All (λ y. honoured y ≡ true → carries t y ≢ carries t x) earlier
+  pub others : AllByRecursion (λ y. honoured y ≡ true → carries t y ≢ carries t x) earlier
 
 abbrev pub Once : Terms → List Call → Type 0
 Once t xs = Each (λ x earlier. honoured x ≡ true → Alone t x earlier) xs

@@ -1,11 +1,11 @@
 // CCM as a sealing scheme.
-ghost use Rattle.std.specs.Prelude.{◌≡◌, ℕ, ◌+◌, ◌≤◌, List, length, take, drop, is_ok, if◌then◌else◌, Some, None, Decides};
+ghost use Rattle.std.specs.Prelude.{◌≡◌, ℕ, ◌+◌, ◌≤◌, List, length, take, drop, is_ok, if◌then◌else◌, Decides};
 ghost use Rattle.answers.specs.Buffers.{fronted};
-ghost use Rattle.sealing.specs.Sealing.{Seals, Opens, content_in};
+ghost use Rattle.sealing.specs.Sealing.{Seals, Opens};
 ghost use Rattle.sealing.specs.Tokens.{wiped};
 ghost use Rattle.sha256.specs.Hmac.{expand_step};
 ghost use Rattle.aes.specs.Cipher.{cipher as cipher_of};
-ghost use Rattle.ccm.specs.Mode.{sealed as sealed_by, tag_of, unmasked};
+ghost use Rattle.ccm.specs.Mode.{sealed as sealed_by, unmasked};
 ghost use Rattle.ccm.specs.Scheme.{aes256, cipher_for, ccm_image, ccm_opened, keyless, left};
 ghost use Rattle.ccm.specs.Openings.{length-sealed};
 ghost use Rattle.ccm.specs.Undoing.{ccm_undoes};

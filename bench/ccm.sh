@@ -4,7 +4,10 @@
 set -euo pipefail
 cd "$(dirname "$0")/.."
 mkdir -p target
-(cd crates/ccm_bench && rt run >/dev/null)
+(cd crates/ccm_bench && rt run) >target/ccm_bench.log 2>&1 || {
+    cat target/ccm_bench.log
+    exit 1
+}
 gcc -O3 -o target/ccm_c bench/ccm.c -lcrypto
 for _ in 1 2 3; do
     echo "ours"

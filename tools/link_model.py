@@ -1,9 +1,9 @@
 #!/usr/bin/env python3
-"""The rules of docs/RULES.md as a plain model: reads a script of `link_bench` and prints what it must answer.
+"""The rules of docs/RULES.md as a plain model: reads a script of `link_script` and prints what it must answer.
 
 It shares no code with the part. AES-CCM is that of the package `cryptography` (OpenSSL), HMAC that of Python.
 
-    python3 tools/link_model.py < crates/link_bench/stdin > crates/link_bench/stdout
+    python3 tools/link_model.py < crates/link_script/stdin > crates/link_script/stdout
 """
 import hashlib
 import hmac
@@ -306,6 +306,8 @@ class NoneStore:
 
 
 class Cache(NoneStore):
+    """The cache by its rules, for the program to come."""
+
     def __init__(self, names, tokens):
         if names > 1024 or tokens > 16:
             raise Refused(7)
@@ -389,6 +391,15 @@ class Words:
             raise Bad("not an IP")
         return data
 
+    def head(self, word, misplaced, kinds):
+        """The kind of a part, after the word that a line of the head begins with."""
+        if self.next() != word:
+            raise Bad(misplaced)
+        kind = self.next()
+        if kind not in kinds:
+            raise Bad(f"no such {word}")
+        return kind
+
     def length(self, word, usual):
         if not self.words or self.words[0] != word:
             return usual
@@ -400,22 +411,14 @@ class Words:
 
 
 def read_scheme(w):
-    if w.next() != "scheme":
-        raise Bad("the scheme comes first")
-    kind = w.next()
-    if kind not in ("bench", "ccm"):
-        raise Bad("no such scheme")
+    kind = w.head("scheme", "the scheme comes first", ("bench", "ccm"))
     secret = w.array(16 if kind == "bench" else 32)
     w.end()
     return lambda _: ((Bench if kind == "bench" else Ccm)(secret), f"scheme {kind}")
 
 
 def read_log(w):
-    if w.next() != "log":
-        raise Bad("the log comes next")
-    kind = w.next()
-    if kind not in ("none", "set", "bloom", "turning", "expected"):
-        raise Bad("no such log")
+    kind = w.head("log", "the log comes next", ("none", "set", "bloom", "turning", "expected"))
     numbers = [w.number(32) for _ in range({"none": 0, "set": 1}.get(kind, 2))]
     w.end()
 
@@ -445,15 +448,14 @@ def read_gate(w):
     return make
 
 
+# What the program has today.
+STORES = {"none": NoneStore}
+
+
 def read_store(w):
-    if w.next() != "store":
-        raise Bad("the store comes next")
-    kind = w.next()
-    if kind not in ("none", "cache"):
-        raise Bad("no such store")
-    numbers = [w.number(32) for _ in range(2 if kind == "cache" else 0)]
+    kind = w.head("store", "the store comes next", STORES)
     w.end()
-    return lambda _: ((Cache(*numbers) if kind == "cache" else NoneStore()), f"store {kind}")
+    return lambda _: (STORES[kind](), f"store {kind}")
 
 
 class Session:

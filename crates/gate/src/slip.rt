@@ -78,11 +78,11 @@ impl Slip {
         ensures { result ≡ self.address }
     {
         let Slip {
-            address: to,
+            address: peer,
             destination: _,
             validation: _,
         } = self;
-        to
+        peer
     }
 
     // Spends the slip: nothing is sent.

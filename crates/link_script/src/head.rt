@@ -86,10 +86,10 @@ impl Head for GateHead {
     }
 }
 
+// The store that keeps nothing; no other is built yet.
 #[derive(Clone, Copy)]
 pub(crate) enum StoreHead {
     None,
-    Cache { names: u32, tokens: u32 },
 }
 
 impl Head for StoreHead {
@@ -99,10 +99,6 @@ impl Head for StoreHead {
         }
         let head = match words.next()? {
             "none" => StoreHead::None,
-            "cache" => StoreHead::Cache {
-                names: words.u32()?,
-                tokens: words.u32()?,
-            },
             _ => return Err(Bad::Line("no such store")),
         };
         words.end()?;

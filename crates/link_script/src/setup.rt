@@ -194,6 +194,5 @@ fn with_store<S: SealingScheme, L: TokenLog>(
             println!(rt; "store none")?;
             run(rt, heap, gate, &mut NoneTokenStore::new(), lines, at)
         }
-        StoreHead::Cache { names, tokens } => Ok(()),
     }
 }

@@ -15,7 +15,7 @@ import subprocess
 import sys
 
 import link_model
-from link_model import LAST_CLOCK, LONGEST_LIFETIME, SECOND
+from link_model import LAST_CLOCK, LONGEST_LIFETIME, SECOND, Bench, Ccm, encode
 
 PROGRAM = pathlib.Path(__file__).parent.parent / "crates/link_script/out/link_script"
 DAY = 86_400 * SECOND
@@ -34,7 +34,7 @@ class Script:
     def __init__(self, seed, calls):
         self.random, self.calls = random.Random(seed), calls
         self.lines, self.answer, self.tokens = [], None, []
-        self.retry = self.pick(0, SECOND, 15 * SECOND, LONGEST_LIFETIME)
+        self.retry = self.pick(0, SECOND, 15 * SECOND, LONGEST_LIFETIME, LONGEST_LIFETIME + self.pick(0, 0, 1))
         self.validation = self.pick(0, 1, SECOND - 1, SECOND, 10 * SECOND, 14 * DAY, LONGEST_LIFETIME)
         self.now = self.pick(0, 1000 * SECOND, 1_700_000_000 * SECOND, LAST_CLOCK - 100 * SECOND)
 
@@ -65,7 +65,24 @@ class Script:
             token.append(self.random.getrandbits(8))
         return token.hex() or "-"
 
+    def strange(self):
+        """A token that opens, to a content or to something near one."""
+        second, ip = self.now // SECOND % 2**32, self.pick(bytes([192, 0, 2, 7]), bytes(16))
+        retry = ("retry", ip, 4433, bytes(self.pick(0, 2, 20)), second)
+        content = bytearray(encode(self.pick(retry, ("validation", ip, second))))
+        way = self.pick("whole", "turned", "cut", "longer")
+        if way == "turned":
+            content[self.random.randrange(len(content))] ^= 1 << self.random.randrange(8)
+        elif way == "cut":
+            del content[self.random.randrange(len(content)):]
+        elif way == "longer":
+            content.append(0)
+        nonce = self.random.randbytes(16)
+        return (self.scheme.seal(nonce, bytes(content)) + nonce).hex()
+
     def token(self):
+        if self.chance(0.05):
+            return self.strange()
         if not self.tokens or self.chance(0.1):
             return self.pick(*NO_TOKENS)
         return self.damaged() if self.chance(0.1) else self.pick(*self.tokens[-12:])
@@ -91,13 +108,15 @@ class Script:
     def log(self):
         k = self.pick(1, 3, 64)
         return self.pick(
-            "none", f"set {self.pick(1, 2, 4, 30)}", f"bloom {self.pick(0, 16, 64, 200)} {k}",
-            f"turning {self.pick(0, 47, 48, 112, 128, 1000)} {k}", f"expected {self.pick(1000, 4000)} {self.pick(100, 1000)}")
+            "none", f"set {self.pick(0, 1, 2, 4, 4, 30, 30)}", f"bloom {self.pick(0, 16, 64, 200)} {k}",
+            f"turning {self.pick(0, 47, 48, 112, 128, 1000, 16_777_217)} {k}", f"expected {self.pick(1000, 4000)} {self.pick(100, 1000)}")
 
     def head(self):
         yield self.pick("# a script", "", "no scheme")
-        bits = self.random.getrandbits
-        yield f"scheme ccm {bits(256):064x}" if self.chance(0.3) else f"scheme bench {bits(128):032x}"
+        ccm = self.chance(0.3)
+        secret = self.random.randbytes(32 if ccm else 16)
+        self.scheme = (Ccm if ccm else Bench)(secret)
+        yield f"scheme {'ccm' if ccm else 'bench'} {secret.hex()}"
         yield "log " + self.log()
         yield f"gate {self.retry} {self.validation}"
         yield "store none"

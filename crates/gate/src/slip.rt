@@ -85,7 +85,7 @@ impl Slip {
         peer
     }
 
-    // Spends the slip: nothing is sent.
+    // Spends the slip: nothing is sent. It has no clause, as there is nothing that it answers or alters.
     pub fn ignore(self) {
         let Slip {
             address: _,

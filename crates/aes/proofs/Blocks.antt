@@ -1,5 +1,5 @@
 -- What the last step gives is 16 bytes.
-use Rattle.std.proofs.Common.{◌≡◌, ℕ, zero, suc, ◌%◌, ◌<◌, List, [], ◌∷◌, length, get_or, refl, arith, lit<}
+use Rattle.std.proofs.Common.{◌≡◌, ℕ, zero, suc, ◌%◌, ◌<◌, List, [], ◌∷◌, length, refl, arith, lit<, slice_index}
 use lib.Bits.{bit_xor, xor_lt}
 use Rattle.aes.specs.Field.{sub}
 use Rattle.aes.specs.Cipher.{add_round_key, cipher}
@@ -8,7 +8,7 @@ use Rattle.aes.proofs.Bounds.{sub_lt}
 
 -- every entry is a byte
 Bytes : List ℕ → Type 0
-Bytes l = (i : ℕ) → get_or l i 0 < 256
+Bytes l = (i : ℕ) → slice_index l i < 256
 
 none : Bytes []
 unfolding Bytes
@@ -19,7 +19,7 @@ unfolding Bytes
 one_more x y l h zero = xor_lt 8 (sub x) (y % 256) (sub_lt x) (omega arith)
 one_more x y l h (suc i) = h i
 
-bytes_at : (l : List ℕ) → Bytes l → (i : ℕ) → get_or l i 0 < 256
+bytes_at : (l : List ℕ) → Bytes l → (i : ℕ) → slice_index l i < 256
 unfolding Bytes
 bytes_at l h = h
 

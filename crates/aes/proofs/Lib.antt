@@ -1,4 +1,5 @@
 pub mod Entries
+pub mod Chunks
 pub mod Bounds
 pub mod Bytes
 pub mod Columns

@@ -1,19 +1,47 @@
--- The rounds of the cipher, one more and all of them.
-use Rattle.std.proofs.Common.{◌≡◌, ℕ, suc, ◌+◌, ◌-◌, ◌≤◌, List, sym, refl, ap, ◌∙◌, arith}
-use Rattle.aes.specs.Cipher.{sub_bytes, shift_rows, add_round_key, round, rounds, cipher}
+-- The rounds of the cipher, one after the other, by the keys that follow the first.
+use Rattle.std.proofs.Common.{◌≡◌, ℕ, zero, suc, ◌+◌, ◌<◌, List, [], length, take, drop, get_or, refl, ap, ◌∙◌, arith, lit<}
+use Rattle.std.specs.List.{fold}
+use Rattle.std.specs.Simd.{first_chunks}
+use Rattle.std.proofs.lemmas.List.Sums.{fold_more}
+use Rattle.aes.specs.Cipher.{mix_columns, shift_rows, sub_bytes, add_round_key, round, rounds, cipher}
+use Rattle.aes.proofs.Chunks.{key_alone}
 
-pub rounds_none : (w s : List ℕ) → s ≡ rounds w 0 s
+-- a round by the chunk of a key
+one_round : (i : ℕ) (w s : List ℕ) → i < 15 → round (get_or (first_chunks 4 15 w) i []) 0 s ≡ round w i s
+unfolding round
+one_round i w s h = key_alone 15 i w (mix_columns (shift_rows (sub_bytes s))) h
+
+keys : List ℕ → List (List ℕ)
+keys w = drop 1 (first_chunks 4 15 w)
+
+next_key : (n : ℕ) (w : List ℕ) → get_or (keys w) n [] ≡ get_or (first_chunks 4 15 w) (suc n) []
+unfolding keys
+next_key n w = refl
+
+length-keys : (w : List ℕ) → length (keys w) ≡ 14
+unfolding keys
+length-keys w = refl
+
+folded : (n : ℕ) (w s : List ℕ) → n < 14 → fold (λ x k. round k 0 x) s (take n (keys w)) ≡ rounds w n s
 unfolding rounds
-rounds_none w s = refl
+folded zero w s h = refl
+folded (suc n) w s h =
+    let f : List ℕ → List ℕ → List ℕ = λ x k. round k 0 x in
+    let l : n < length (keys w) = omega (arith, length-keys w) in
+    ap (λ (m : ℕ). fold f s (take m (keys w))) (let e : suc n ≡ n + 1 = omega arith in e)
+    ∙ fold_more f s (keys w) n [] l
+    ∙ ap (f (fold f s (take n (keys w)))) (next_key n w)
+    ∙ one_round (suc n) w (fold f s (take n (keys w))) (omega arith)
+    ∙ ap (round w (suc n)) (folded n w s (omega arith))
 
-one_more : (w b : List ℕ) (m n k : ℕ) → n ≡ suc m → k ≡ suc m → round w n (rounds w m b) ≡ rounds w k b
-unfolding rounds
-one_more w b m n k p q = ap (λ (y : ℕ). round w y (rounds w m b)) p ∙ sym (ap (λ (y : ℕ). rounds w y b) q)
-
-pub rounds_more : (w x s b : List ℕ) (n : ℕ) → 1 ≤ n → x ≡ round w n s → s ≡ rounds w (n - 1) b → x ≡ rounds w (n + 1 - 1) b
-rounds_more w x s b n h e f = e ∙ ap (round w n) f ∙ one_more w b (n - 1) n (n + 1 - 1) (omega arith) (omega arith)
-
-pub rounds-all : (w x y s t b : List ℕ) (n : ℕ) → x ≡ add_round_key w 14 y → y ≡ shift_rows (sub_bytes s) → s ≡ rounds w (n - 1) t → n ≡ 14 → t ≡ add_round_key w 0 b → x ≡ cipher w b
-unfolding cipher
-rounds-all w x y s t b n e f g h i =
-    e ∙ ap (add_round_key w 14) (f ∙ ap (λ (z : List ℕ). shift_rows (sub_bytes z)) (g ∙ ap (λ (m : ℕ). rounds w (m - 1) t) h ∙ ap (rounds w 13) i))
+-- the cipher by chunks cs of its keys: y is after the first key, m after the rounds that mix columns, z before the last key
+pub all_rounds : (w b y m z x : List ℕ) (cs : List (List ℕ)) → cs ≡ first_chunks 4 15 w
+    → y ≡ add_round_key (get_or cs 0 []) 0 b → m ≡ fold (λ x k. round k 0 x) y (take 13 (drop 1 cs)) → z ≡ shift_rows (sub_bytes m)
+    → x ≡ add_round_key (get_or cs 14 []) 0 z → x ≡ cipher w b
+unfolding cipher keys
+all_rounds w b y m z x cs e fy fm fz fx =
+    let first : y ≡ add_round_key w 0 b = fy ∙ ap (λ (c : List (List ℕ)). add_round_key (get_or c 0 []) 0 b) e ∙ key_alone 15 0 w b (lit< tt) in
+    let mid : m ≡ rounds w 13 (add_round_key w 0 b) =
+    fm ∙ ap (λ (c : List (List ℕ)). fold (λ x k. round k 0 x) y (take 13 (drop 1 c))) e ∙ folded 13 w y (lit< tt) ∙ ap (rounds w 13) first in
+    fx ∙ ap (λ (c : List (List ℕ)). add_round_key (get_or c 14 []) 0 z) e ∙ key_alone 15 14 w z (lit< tt)
+    ∙ ap (add_round_key w 14) (fz ∙ ap (λ (u : List ℕ). shift_rows (sub_bytes u)) mid)

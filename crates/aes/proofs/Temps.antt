@@ -1,5 +1,5 @@
 -- The three cases of the word that a new word of the key expansion takes, and the rotation and the constants in it.
-use Rattle.std.proofs.Common.{◌≡◌, ℕ, zero, suc, ◌+◌, ◌-◌, ◌*◌, ◌/◌, ◌%◌, ◌^◌, ◌<◌, ◌≤◌, eqb, List, get_or, refl, ap, ◌∙◌, arith}
+use Rattle.std.proofs.Common.{◌≡◌, ℕ, zero, suc, ◌+◌, ◌-◌, ◌*◌, ◌/◌, ◌%◌, ◌^◌, ◌<◌, ◌≤◌, List, refl, ap, ◌∙◌, arith, slice_index, ◌==◌}
 use lib.Bits.{bit_or, bit_xor}
 use Rattle.std.proofs.lemmas.Nat.{or_comm}
 use Rattle.std.proofs.lemmas.Bool.{cond-true, cond-false, eq-eqb, ne_eqb}
@@ -21,14 +21,14 @@ unfolding rcon
 round_constant zero h l = absurd (omega arith)
 round_constant (suc k) h l = agree (λ k. 1 * 2 ^ (suc k + 23) % 4294967296) (λ k. rcon (suc k)) 7 refl k (omega arith)
 
-pub temp_first : (w : List ℕ) (i : ℕ) → i % 8 ≡ 0 → temp w i ≡ bit_xor (sub_word (rot_word (get_or w (i - 1) 0))) (rcon (i / 8))
+pub temp_first : (w : List ℕ) (i : ℕ) → i % 8 ≡ 0 → temp w i ≡ bit_xor (sub_word (rot_word (slice_index w (i - 1)))) (rcon (i / 8))
 unfolding temp
-temp_first w i h = cond-true (eqb (i % 8) 0) _ _ (eq-eqb (i % 8) 0 h)
+temp_first w i h = cond-true ((i % 8) == 0) _ _ (eq-eqb (i % 8) 0 h)
 
-pub temp_middle : (w : List ℕ) (i : ℕ) → i % 8 ≡ 4 → temp w i ≡ sub_word (get_or w (i - 1) 0)
+pub temp_middle : (w : List ℕ) (i : ℕ) → i % 8 ≡ 4 → temp w i ≡ sub_word (slice_index w (i - 1))
 unfolding temp
-temp_middle w i h = cond-false (eqb (i % 8) 0) _ _ (ne_eqb (i % 8) 0 (λ e. omega arith)) ∙ cond-true (eqb (i % 8) 4) _ _ (eq-eqb (i % 8) 4 h)
+temp_middle w i h = cond-false ((i % 8) == 0) _ _ (ne_eqb (i % 8) 0 (λ e. omega arith)) ∙ cond-true ((i % 8) == 4) _ _ (eq-eqb (i % 8) 4 h)
 
-pub temp_other : (w : List ℕ) (i : ℕ) → (i % 8 ≡ 0 → ⊥) → (i % 8 ≡ 4 → ⊥) → temp w i ≡ get_or w (i - 1) 0
+pub temp_other : (w : List ℕ) (i : ℕ) → (i % 8 ≡ 0 → ⊥) → (i % 8 ≡ 4 → ⊥) → temp w i ≡ slice_index w (i - 1)
 unfolding temp
-temp_other w i h g = cond-false (eqb (i % 8) 0) _ _ (ne_eqb (i % 8) 0 h) ∙ cond-false (eqb (i % 8) 4) _ _ (ne_eqb (i % 8) 4 g)
+temp_other w i h g = cond-false ((i % 8) == 0) _ _ (ne_eqb (i % 8) 0 h) ∙ cond-false ((i % 8) == 4) _ _ (ne_eqb (i % 8) 4 g)

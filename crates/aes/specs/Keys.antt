@@ -1,5 +1,5 @@
 -- FIPS 197, section 5.2: the expansion of a key of 32 bytes into 60 words.
-use Rattle.std.specs.Prelude.{ℕ, zero, suc, ◌+◌, ◌-◌, ◌*◌, ◌/◌, ◌%◌, cond, List, [], ◌∷◌, map, replicate, ◌==◌, bit_xor, slice_index, slice_index_or, slice_set}
+use Rattle.std.specs.Prelude.{ℕ, zero, suc, ◌+◌, ◌-◌, ◌*◌, ◌/◌, ◌%◌, if◌then◌else◌, List, [], ◌∷◌, map, replicate, ◌==◌, bit_xor, slice_index, slice_index_or, slice_set}
 use Rattle.aes.specs.Field.{xtime, sub}
 use Rattle.aes.specs.Words.{four, bytes_of, word}
 
@@ -24,7 +24,7 @@ rcon j = word (power (j - 1) ∷ 0 ∷ 0 ∷ 0 ∷ [])
 unfoldable pub temp : List ℕ → ℕ → ℕ
 temp w i =
     let before = slice_index_or w (i - 1) 0 in
-    cond (i % 8 == 0) (bit_xor (sub_word (rot_word before)) (rcon (i / 8))) (cond (i % 8 == 4) (sub_word before) before)
+    if i % 8 == 0 then bit_xor (sub_word (rot_word before)) (rcon (i / 8)) else if i % 8 == 4 then sub_word before else before
 
 -- the i-th word of the key
 abbrev pub key_word : List ℕ → ℕ → ℕ

@@ -1,12 +1,13 @@
 // The cipher: each step takes the state of 16 bytes and gives it back.
-ghost use Rattle.std.specs.Prelude.{◌≡◌, ◌<◌, ◌++◌};
+ghost use Rattle.std.specs.Prelude.{◌≡◌};
 ghost use Rattle.aes.specs.Field.{sub};
 ghost use Rattle.aes.specs.Words.{four, bytes_of};
-ghost use Rattle.aes.specs.Cipher.{mixed, sub_bytes, shift_rows, mix_columns, add_round_key, round as round_of, cipher};
+ghost use Rattle.aes.specs.Cipher.{mixed, sub_bytes, shift_rows, mix_columns, round_key, add_round_key, round as round_of, cipher};
 ghost use Rattle.aes.specs.Keys.{key_expansion};
 
 use crate::keys::{WORDS, expand};
 use crate::tables::{spread, substitute};
+use std::array;
 
 const ROUNDS: usize = 14;
 
@@ -18,91 +19,43 @@ fn column(a: u8, b: u8, c: u8, d: u8) -> u32
 }
 
 // The state of four columns.
-fn joined(a: u32, b: u32, c: u32, d: u32) -> [u8; 16]
-    ensures { result ≡ bytes_of a ++ (bytes_of b ++ (bytes_of c ++ bytes_of d)) }
+fn joined(columns: [u32; 4]) -> [u8; 16]
+    ensures { result ≡ round_key columns 0 }
 {
-    let a = a.to_be_bytes();
-    let b = b.to_be_bytes();
-    let c = c.to_be_bytes();
-    let d = d.to_be_bytes();
-    [
-        a[0], a[1], a[2], a[3], b[0], b[1], b[2], b[3], c[0], c[1], c[2], c[3], d[0], d[1], d[2],
-        d[3],
-    ]
+    array::from_fn(|i| columns[i / 4].to_be_bytes()[i % 4])
 }
 
-// SubBytes, then ShiftRows.
+// SubBytes, then ShiftRows: row r of a column comes from the column r places to the right, five bytes on for each row.
 fn substituted(state: [u8; 16]) -> [u8; 16]
     ensures { result ≡ shift_rows (sub_bytes state) }
 {
-    [
-        substitute(state[0]),
-        substitute(state[5]),
-        substitute(state[10]),
-        substitute(state[15]),
-        substitute(state[4]),
-        substitute(state[9]),
-        substitute(state[14]),
-        substitute(state[3]),
-        substitute(state[8]),
-        substitute(state[13]),
-        substitute(state[2]),
-        substitute(state[7]),
-        substitute(state[12]),
-        substitute(state[1]),
-        substitute(state[6]),
-        substitute(state[11]),
-    ]
+    array::from_fn(|i| substitute(state[5 * i % 16]))
 }
 
 // SubBytes, ShiftRows, then MixColumns.
 fn mix(state: [u8; 16]) -> [u8; 16]
     ensures { result ≡ mix_columns (shift_rows (sub_bytes state)) }
 {
-    joined(
+    joined([
         column(state[0], state[5], state[10], state[15]),
         column(state[4], state[9], state[14], state[3]),
         column(state[8], state[13], state[2], state[7]),
         column(state[12], state[1], state[6], state[11]),
-    )
+    ])
 }
 
-// AddRoundKey, with the n-th round key.
-fn add_round_key(state: [u8; 16], keys: &[u32; WORDS], n: usize) -> [u8; 16]
-    requires { n < 15 }
-    ensures { result ≡ add_round_key keys.now n state }
+// AddRoundKey.
+fn add_round_key(state: [u8; 16], key: &[u32; 4]) -> [u8; 16]
+    ensures { result ≡ add_round_key key.now 0 state }
 {
-    let key = joined(
-        keys[4 * n],
-        keys[4 * n + 1],
-        keys[4 * n + 2],
-        keys[4 * n + 3],
-    );
-    [
-        state[0] ^ key[0],
-        state[1] ^ key[1],
-        state[2] ^ key[2],
-        state[3] ^ key[3],
-        state[4] ^ key[4],
-        state[5] ^ key[5],
-        state[6] ^ key[6],
-        state[7] ^ key[7],
-        state[8] ^ key[8],
-        state[9] ^ key[9],
-        state[10] ^ key[10],
-        state[11] ^ key[11],
-        state[12] ^ key[12],
-        state[13] ^ key[13],
-        state[14] ^ key[14],
-        state[15] ^ key[15],
-    ]
+    let key = joined(*key);
+    array::from_fn(|i| state[i] ^ key[i])
 }
 
-fn round(state: [u8; 16], keys: &[u32; WORDS], n: usize) -> [u8; 16]
-    requires { n < 15 }
-    ensures { result ≡ round_of keys.now n state }
+fn round(state: [u8; 16], key: &[u32; 4]) -> [u8; 16]
+    ensures { result ≡ round_of key.now 0 state }
 {
-    add_round_key(mix(state), keys, n)
+    add_round_key(mix(state), key)
 }
 
 // A key of 256 bits, expanded.
@@ -125,12 +78,10 @@ impl Aes256 {
     pub fn encrypt_block(&self, block: [u8; 16]) -> [u8; 16]
         ensures { result ≡ cipher self.now.round_keys block }
     {
-        let keys = &self.round_keys;
-        let mut state = add_round_key(block, keys, 0);
-        for n in 1..ROUNDS {
-            let next = round(state, keys, n);
-            state = next;
-        }
-        add_round_key(substituted(state), keys, ROUNDS)
+        let (keys, _) = self.round_keys.as_chunks::<4>();
+        let mixed = keys[1..ROUNDS]
+            .iter()
+            .fold(add_round_key(block, &keys[0]), round);
+        add_round_key(substituted(mixed), &keys[ROUNDS])
     }
 }

@@ -15,13 +15,7 @@ const MIDDLE: usize = 4;
 fn sub_word(word: u32) -> u32
     ensures { result ≡ sub_word word }
 {
-    let bytes = word.to_be_bytes();
-    u32::from_be_bytes([
-        substitute(bytes[0]),
-        substitute(bytes[1]),
-        substitute(bytes[2]),
-        substitute(bytes[3]),
-    ])
+    u32::from_be_bytes(word.to_be_bytes().map(substitute))
 }
 
 // What word i takes from the word before it.
@@ -30,12 +24,10 @@ fn temp(words: &[u32; WORDS], i: usize) -> u32
     ensures { result ≡ temp_of words.now i }
 {
     let before = words[i - 1];
-    if i % KEY_WORDS == 0 {
-        sub_word(before.rotate_left(8)) ^ (1 << (i / KEY_WORDS + 23))
-    } else if i % KEY_WORDS == MIDDLE {
-        sub_word(before)
-    } else {
-        before
+    match i % KEY_WORDS {
+        0 => sub_word(before.rotate_left(8)) ^ (1 << (i / KEY_WORDS + 23)),
+        MIDDLE => sub_word(before),
+        _ => before,
     }
 }
 
@@ -43,11 +35,12 @@ pub fn expand(key: &[u8; 32]) -> [u32; WORDS]
     ensures { result ≡ key_expansion key.now }
 {
     let mut words = [0; WORDS];
-    for i in 0..KEY_WORDS {
-        words[i] = u32::from_be_bytes([key[4 * i], key[4 * i + 1], key[4 * i + 2], key[4 * i + 3]]);
+    for (i, bytes) in key.as_chunks::<4>().0.iter().enumerate() {
+        words[i] = u32::from_be_bytes(*bytes);
     }
-    for n in 0..WORDS - KEY_WORDS {
-        words[KEY_WORDS + n] = words[n] ^ temp(&words, KEY_WORDS + n);
+    // Each word is made of two before it in the same array, so no chain over its elements is plainer.
+    for i in KEY_WORDS..WORDS {
+        words[i] = words[i - KEY_WORDS] ^ temp(&words, i);
     }
     words
 }

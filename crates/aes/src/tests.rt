@@ -1,6 +1,7 @@
 // The examples A.3 and C.3 of FIPS 197.
 use crate::Aes256;
 use crate::keys::expand;
+use std::array;
 
 const KEY_A3: [u8; 32] = [
     0x60, 0x3d, 0xeb, 0x10, 0x15, 0xca, 0x71, 0xbe, 0x2b, 0x73, 0xae, 0xf0, 0x85, 0x7d, 0x77, 0x81,
@@ -17,14 +18,8 @@ fn expands_the_key_of_a3(rt: HostRuntime) {
 
 #[test]
 fn enciphers_the_block_of_c3(rt: HostRuntime) {
-    let mut key = [0; 32];
-    for i in 0..32u8 {
-        key[i as usize] = i;
-    }
-    let mut block = [0; 16];
-    for i in 0..16u8 {
-        block[i as usize] = 0x11 * i;
-    }
+    let key = array::from_fn(|i| i as u8);
+    let block = array::from_fn(|i| 0x11 * i as u8);
     let cipher = Aes256::new(&key).encrypt_block(block);
     assert_eq!(rt;
         u128::from_be_bytes(cipher),

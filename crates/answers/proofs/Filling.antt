@@ -1,20 +1,12 @@
 -- Loops that write one element after the other: their invariants, a turn, and the end.
-use Rattle.std.proofs.Common.{◌≡◌, ℕ, ◌+◌, ◌<◌, ◌≤◌, List, ◌++◌, map, length, get_or, drop, set, sym, refl, ap, ◌∙◌, ap₂, arith, length-set}
+use Rattle.std.proofs.Common.{◌≡◌, ℕ, ◌+◌, ◌<◌, List, ◌++◌, length, get_or, drop, set, sym, refl, ap, ◌∙◌, ap₂, arith}
 use lib.Seq.{paste}
-use Rattle.std.specs.List.{range_with_len}
-use Rattle.std.proofs.lemmas.List.Edits.{fill_by_more, paste_more, paste_all}
-use Rattle.std.proofs.lemmas.List.FromFn.{fill_by_all}
+use Rattle.std.proofs.lemmas.List.Edits.{paste_more, paste_all}
 use Rattle.answers.specs.Buffers.{fronted}
 
 -- n elements, of which the first i are those of f
 abbrev pub Filled : (ℕ → ℕ) → ℕ → List ℕ → ℕ → Type 0
 Filled f n xs i = (length xs ≡ n) × ((k : ℕ) → k < i → get_or xs k 0 ≡ f k)
-
-pub filled_more : (f : ℕ → ℕ) (n : ℕ) (xs : List ℕ) (i v : ℕ) → i < n → v ≡ f i → Filled f n xs i → Filled f n (set xs i v) (i + 1)
-filled_more f n xs i v h e inv = rw e (length-set xs i (f i) ∙ inv.0, fill_by_more f xs i 0 (omega arith) inv.1)
-
-pub filled_all : (f : ℕ → ℕ) (n : ℕ) (xs : List ℕ) (i : ℕ) → n ≤ i → Filled f n xs i → xs ≡ map f (range_with_len 0 n)
-filled_all f n xs i h inv = fill_by_all f xs n 0 inv.0 (λ k l. inv.1 k (omega arith))
 
 -- a loop that writes s over the front of d
 pub front_more : (d d' s : List ℕ) (i v : ℕ) → d' ≡ paste d 0 s i → i < length d → i < length s → v ≡ get_or s i 0 → set d' i v ≡ paste d 0 s (i + 1)

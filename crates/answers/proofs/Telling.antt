@@ -1,5 +1,5 @@
 -- A number tells its answer: the answer is found again by the number.
-use Rattle.std.proofs.Common.{◌≡◌, ℕ, ◌≤◌, cond, eqb, ◌⊎◌, Some, None, Option, sym, refl, ap, ◌∙◌, inl, inr, ⊎_elim, arith}
+use Rattle.std.proofs.Common.{◌≡◌, ℕ, ◌≤◌, cond, nat_eq, ◌⊎◌, Some, None, Option, sym, refl, ap, ◌∙◌, inl, inr, ⊎_elim, arith}
 use Rattle.answers.specs.declared.Refusal.{Refusal}
 use Rattle.answers.specs.declared.Refusal.TheVariants as refusal
 use Rattle.answers.specs.declared.Cause.{Cause}
@@ -13,7 +13,7 @@ data Listed (X : Type 0) : Type 0 where
 
 abbrev find : {X : Type 0} → Listed X → ℕ → Option X
 find none n = None
-find (entry k x rest) n = cond (eqb k n) (Some x) (find rest n)
+find (entry k x rest) n = cond (nat_eq k n) (Some x) (find rest n)
 
 abbrev refusals : Listed Refusal
 refusals =

@@ -1,5 +1,5 @@
 -- What a call leaves in a buffer that it writes.
-use Rattle.std.specs.Prelude.{◌≡◌, ℕ, ◌+◌, cond, List, ◌++◌, length, take, drop, Ok, Err, Result, nat_lt}
+use Rattle.std.specs.Prelude.{◌≡◌, ℕ, ◌+◌, List, ◌++◌, length, take, drop, Ok, Err, Result, nat_lt, if◌then◌else◌}
 use Rattle.answers.specs.declared.Refusal.{Refusal}
 use Rattle.answers.specs.declared.Refusal.TheVariants.{SmallBuffer}
 
@@ -9,8 +9,8 @@ fronted bs out = bs ++ drop (length bs) out
 
 -- bs was written from the front: the answer is its length; or it does not fit, and nothing was written
 pub record Written (bs was is : List ℕ) (r : Result ℕ Refusal) : Type 0 where
-  pub answer : r ≡ cond (nat_lt (length was) (length bs)) (Err SmallBuffer) (Ok (length bs))
-  pub after : is ≡ cond (nat_lt (length was) (length bs)) was (fronted bs was)
+  pub answer : r ≡ (if nat_lt (length was) (length bs) then Err SmallBuffer else Ok (length bs))
+  pub after : is ≡ (if nat_lt (length was) (length bs) then was else fronted bs was)
 
 -- the same from a place on
 abbrev pub pasted : List ℕ → ℕ → List ℕ → List ℕ

@@ -69,6 +69,13 @@ pub enum Fault {
     ExtraBytes,
 }
 
+// A call that was refused, with what it was handed for good.
+#[derive(Drop)]
+pub struct Refused<T> {
+    pub refusal: Refusal,
+    pub back: T,
+}
+
 impl From<Fault> for Cause {
     ghost from_gives = { λ fault cause. cause ≡ is_undecodable fault };
 
@@ -78,7 +85,7 @@ impl From<Fault> for Cause {
 }
 
 impl Refusal {
-    // The number by which a refusal is known, 1 to 8.
+    // The number by which a refusal is known, 1 to 8. A method and no `From`, which would not say what the number is.
     pub fn number(self) -> u8
         ensures { result ≡ refusal_number self }
     {

@@ -1,16 +1,8 @@
 -- The sure counts 0, 3, 7, 14, 28 and on.
-use Rattle.std.proofs.Common.{◌≡◌, ℕ, zero, suc, ◌*◌, ◌^◌, ◌<◌, ◌≤◌, ◌⊎◌, refl, ap, ⊎_elim, pow-suc, arith, pow_pos}
+use Rattle.std.proofs.Common.{◌≡◌, ℕ, zero, suc, ◌*◌, ◌^◌, ◌<◌, ◌≤◌, ◌⊎◌, ap, ⊎_elim, pow-suc, arith, pow_pos}
 use lib.Pow.{pow-lt}
 use Rattle.std.proofs.lemmas.Bool.{cases_order}
 use Rattle.bloom.specs.Sizes.{sure_count, Largest}
-
-below_7 : (h n : ℕ) → h < 56 → sure_count n * 8 ≤ h → sure_count n ≤ 3
-below_7 h zero l k = omega arith
-below_7 h (suc zero) l k = omega arith
-below_7 h (suc (suc j)) l k = absurd (omega (arith, pow_pos j))
-
-pub largest_3 : (h : ℕ) → 24 ≤ h → h < 56 → Largest h 3
-largest_3 h least most = record { one = (1, refl); fits = omega arith; most = λ n k. below_7 h n most k }
 
 -- a power of 2 that is larger is at least the double
 doubled : (i j : ℕ) → i < j → 2 ^ i * 2 ≤ 2 ^ j
@@ -30,6 +22,3 @@ below_twice h c k (suc (suc j)) e l f =
 
 pub largest_7 : (h c k : ℕ) → c ≡ 7 * 2 ^ k → c * 8 ≤ h → h < c * 16 → Largest h c
 largest_7 h c k e f l = record { one = (suc (suc k), e); fits = f; most = λ n g. below_twice h c k n e l g }
-
-pub twice_7 : (c k : ℕ) → c ≡ 7 * 2 ^ k → (n : ℕ) × (c * 2 ≡ 7 * 2 ^ n)
-twice_7 c k e = (suc k, omega (arith, pow-suc 2 k))

@@ -1,10 +1,11 @@
 -- The positions of a fingerprint: what setting them does, and what testing them tells.
-use Rattle.std.proofs.Common.{◌≡◌, ℕ, zero, suc, ◌+◌, ◌*◌, ◌/◌, ◌%◌, ◌^◌, ◌<◌, ◌≤◌, true, false, List, length, get_or, set, replicate, sym, refl, ap, ◌∙◌, subst, ⊎_elim, mod-lt, add-one, arith, length-set}
-use native.Mathlib.Nat.{zero-div}
+use Rattle.std.proofs.Common.{Bool, ◌&&◌, [], ◌∷◌, ◌-◌, mod-eq_of_lt, add-zero, zero-add, ◌≡◌, ℕ, zero, suc, ◌+◌, ◌*◌, ◌/◌, ◌%◌, ◌^◌, ◌<◌, ◌≤◌, true, false, List, length, slice_index, set, replicate, sym, refl, ap, ◌∙◌, subst, ⊎_elim, mod-lt, add-one, arith, length-set}
+use native.Mathlib.Nat.{zero-div, mod-eq-sub-mod}
 use lib.Bits.{bit_or}
 use Rattle.std.proofs.lemmas.List.{get_or-set_same, get_or-set_other, get_or-replicate, get_or_past, length-replicate}
 use Rattle.std.proofs.lemmas.Bool.{eqb-true, eq-eqb, ne_eqb, cases_eq, cases_Bool, cases_lt, both_ways, and_from, and_parts}
-use Rattle.bloom.specs.Bits.{bit, set_bit, step, position, all_set, with_set}
+use Rattle.bloom.specs.Bits.{bit, set_bit, step, position, ahead, all_set, with_set}
+use Rattle.std.specs.List.{fold, list_all}
 use Rattle.bloom.proofs.OneBit.{or_keeps, or_sets}
 
 length-set_bit : (ws : List ℕ) (q : ℕ) → length (set_bit ws q) ≡ length ws
@@ -14,20 +15,20 @@ length-set_bit ws q = length-set ws (q / 64) _
 bit-set : (ws : List ℕ) (q : ℕ) → q / 64 < length ws → bit (set_bit ws q) q ≡ true
 unfolding set_bit
 bit-set ws q h =
-    let w = get_or ws (q / 64) 0 in
+    let w = slice_index ws (q / 64) in
     eq-eqb _ 1 (ap (λ (x : ℕ). x / 2 ^ (q % 64) % 2) (get_or-set_same ws (q / 64) (bit_or w (2 ^ (q % 64))) 0 h) ∙ or_sets w (q % 64))
 
 bit_kept : (ws : List ℕ) (q p : ℕ) → q / 64 < length ws → bit ws p ≡ true → bit (set_bit ws q) p ≡ true
 unfolding set_bit
 bit_kept ws q p h b =
-    let w = get_or ws (q / 64) 0 in
+    let w = slice_index ws (q / 64) in
     let v = bit_or w (2 ^ (q % 64)) in
-    let e : get_or ws (p / 64) 0 / 2 ^ (p % 64) % 2 ≡ 1 = eqb-true _ 1 b in
+    let e : slice_index ws (p / 64) / 2 ^ (p % 64) % 2 ≡ 1 = eqb-true _ 1 b in
     ⊎_elim
     (λ (same : p / 64 ≡ q / 64).
-    eq-eqb _ 1 (ap (λ (x : ℕ). get_or (set ws (q / 64) v) x 0 / 2 ^ (p % 64) % 2) same
+    eq-eqb _ 1 (ap (λ (x : ℕ). slice_index (set ws (q / 64) v) x / 2 ^ (p % 64) % 2) same
     ∙ ap (λ (x : ℕ). x / 2 ^ (p % 64) % 2) (get_or-set_same ws (q / 64) v 0 h)
-    ∙ or_keeps w (2 ^ (q % 64)) (p % 64) (subst (λ (x : ℕ). get_or ws x 0 / 2 ^ (p % 64) % 2 ≡ 1) same e)))
+    ∙ or_keeps w (2 ^ (q % 64)) (p % 64) (subst (λ (x : ℕ). slice_index ws x / 2 ^ (p % 64) % 2 ≡ 1) same e)))
     (λ (other : p / 64 ≡ q / 64 → ⊥). eq-eqb _ 1 (ap (λ (x : ℕ). x / 2 ^ (p % 64) % 2) (get_or-set_other ws (q / 64) (p / 64) v 0 other) ∙ e))
     (cases_eq (p / 64) (q / 64))
 
@@ -87,38 +88,65 @@ module _ (ws : List ℕ) (m f : ℕ) (some : 0 < m) (fits : m ≤ 64 * length ws
   refuses_still k g e = all_from (with_set ws m f k) m g k (λ i h. with_keeps k (position m g i) (all-at ws m g k e i h))
 
 -- no bit of zeros is set
-zero_word : (n i : ℕ) → ◌≡◌ {A = ℕ} (get_or (replicate n 0) i 0) 0
+zero_word : (n i : ℕ) → ◌≡◌ {A = ℕ} (slice_index (replicate n 0) i) 0
 zero_word n i = ⊎_elim (λ h. get_or-replicate n i 0 0 h) (λ h. get_or_past (replicate n 0) i 0 (omega (arith, length-replicate {A = ℕ} n 0))) (cases_lt i n)
 
 no_bit : (n p : ℕ) → bit (replicate n 0) p ≡ false
 no_bit n p =
-    let z : get_or (replicate n 0) (p / 64) 0 / 2 ^ (p % 64) ≡ 0 = ap (λ (x : ℕ). x / 2 ^ (p % 64)) (zero_word n (p / 64)) ∙ zero-div (2 ^ (p % 64)) in
+    let z : slice_index (replicate n 0) (p / 64) / 2 ^ (p % 64) ≡ 0 = ap (λ (x : ℕ). x / 2 ^ (p % 64)) (zero_word n (p / 64)) ∙ zero-div (2 ^ (p % 64)) in
     ne_eqb _ 1 (λ e. omega arith)
 
 pub none_set : (n m f k : ℕ) → 0 < k → all_set (replicate n 0) m f k ≡ false
 none_set n m f k h = all_misses (replicate n 0) m f k 0 h (no_bit n (position m f 0))
 
--- the steps of the loops
-pub position_first : (m f : ℕ) → f % m ≡ position m f 0
-unfolding position
-position_first m f = refl
+-- the positions that are still to come
+pub ahead_none : (m s p n : ℕ) → n ≡ 0 → ahead m s p n ≡ []
+unfolding ahead
+ahead_none m s p n e = rw e refl
 
-pub position_more : (m f n p s : ℕ) → p ≡ position m f n → s ≡ step m f → (p + s) % m ≡ position m f (n + 1)
-unfolding position
-position_more m f n p s e d = rw add-one (ap (λ (x : ℕ). (x + s) % m) e ∙ ap (λ (x : ℕ). (position m f n + x) % m) d)
+pub ahead_more : (m s p n j q : ℕ) → n ≡ j + 1 → q ≡ (p + s) % m → ahead m s p n ≡ p ∷ ahead m s q j
+unfolding ahead
+ahead_more m s p n j q e d = rw (e, d, add-one) refl
 
-pub with_none : (ws : List ℕ) (m f : ℕ) → ws ≡ with_set ws m f 0
-unfolding with_set
-with_none ws m f = refl
+pub past_end : (m p s q : ℕ) → p < m → s < m → m ≤ p + s → q ≡ p + s - m → q ≡ (p + s) % m
+past_end m p s q h k l e = let r : p + s - m < m = omega arith in e ∙ sym (mod-eq-sub-mod l ∙ mod-eq_of_lt r)
 
-pub with_more : (ws vs us : List ℕ) (m f n p : ℕ) → vs ≡ with_set ws m f n → p ≡ position m f n → us ≡ set_bit vs p → us ≡ with_set ws m f (n + 1)
-unfolding with_set
-with_more ws vs us m f n p e d u = rw add-one (u ∙ ap (λ (x : List ℕ). set_bit x p) e ∙ ap (set_bit (with_set ws m f n)) d)
+and_turned : (a b c : Bool) → ((a && b) && c) ≡ (b && (c && a))
+and_turned true true true = refl
+and_turned true true false = refl
+and_turned true false c = refl
+and_turned false true true = refl
+and_turned false true false = refl
+and_turned false false c = refl
 
-pub all_none : (ws : List ℕ) (m f : ℕ) → all_set ws m f 0 ≡ true
-unfolding all_set
-all_none ws m f = refl
+and_last : (b : Bool) → b ≡ (b && true)
+and_last true = refl
+and_last false = refl
 
-pub all_more : (ws : List ℕ) (m f n p : ℕ) → all_set ws m f n ≡ true → p ≡ position m f n → bit ws p ≡ true → all_set ws m f (n + 1) ≡ true
-unfolding all_set
-all_more ws m f n p e d b = rw add-one (and_from _ _ e (subst (λ (x : ℕ). bit ws x ≡ true) d b))
+-- from position j on
+all_ahead : (ws : List ℕ) (m f n j : ℕ) → (list_all (bit ws) (ahead m (step m f) (position m f j) n) && all_set ws m f j) ≡ all_set ws m f (j + n)
+unfolding ahead all_set position
+all_ahead ws m f zero j = rw add-zero refl
+all_ahead ws m f (suc n) j =
+    let e : suc j + n ≡ j + suc n = omega arith in
+    and_turned (bit ws (position m f j)) (list_all (bit ws) (ahead m (step m f) (position m f (suc j)) n)) (all_set ws m f j) ∙ all_ahead ws m f n (suc j) ∙ ap (all_set ws m f) e
+
+with_ahead : (ws : List ℕ) (m f n j : ℕ) → fold set_bit (with_set ws m f j) (ahead m (step m f) (position m f j) n) ≡ with_set ws m f (j + n)
+unfolding ahead with_set position
+with_ahead ws m f zero j = rw add-zero refl
+with_ahead ws m f (suc n) j = let e : suc j + n ≡ j + suc n = omega arith in with_ahead ws m f n (suc j) ∙ ap (with_set ws m f) e
+
+pub all_from_first : (ws : List ℕ) (m f k : ℕ) → list_all (bit ws) (ahead m (step m f) (f % m) k) ≡ all_set ws m f k
+unfolding all_set position
+all_from_first ws m f k = and_last (list_all (bit ws) (ahead m (step m f) (f % m) k)) ∙ all_ahead ws m f k 0 ∙ ap (all_set ws m f) (zero-add k)
+
+pub with_from_first : (ws : List ℕ) (m f k : ℕ) → fold set_bit ws (ahead m (step m f) (f % m) k) ≡ with_set ws m f k
+unfolding with_set position
+with_from_first ws m f k = with_ahead ws m f k 0 ∙ ap (with_set ws m f) (zero-add k)
+
+-- the same of a list that is these positions
+pub tested : (ws vs xs : List ℕ) (m b f k : ℕ) (r : Bool) → r ≡ list_all (bit vs) xs → vs ≡ ws → xs ≡ ahead b (step b f) (f % b) k → b ≡ m → r ≡ all_set ws m f k
+tested ws vs xs m b f k r e v x n = e ∙ rw (v, x, n) (all_from_first ws m f k)
+
+pub written : (ws vs us xs : List ℕ) (m b f k : ℕ) → us ≡ fold set_bit vs xs → vs ≡ ws → xs ≡ ahead b (step b f) (f % b) k → b ≡ m → us ≡ with_set ws m f k
+written ws vs us xs m b f k e v x n = e ∙ rw (v, x, n) (with_from_first ws m f k)

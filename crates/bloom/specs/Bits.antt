@@ -1,5 +1,5 @@
 -- Bits in words of 64, and the positions that a fingerprint has among m bits.
-use Rattle.std.specs.Prelude.{ℕ, zero, suc, ◌+◌, ◌-◌, ◌/◌, ◌%◌, ◌^◌, Bool, true, ◌&&◌, List, ◌==◌, bit_or, slice_index, slice_set}
+use Rattle.std.specs.Prelude.{ℕ, zero, suc, ◌+◌, ◌-◌, ◌/◌, ◌%◌, ◌^◌, Bool, true, ◌&&◌, List, [], ◌∷◌, ◌==◌, bit_or, slice_index, slice_set}
 
 -- position p is bit p mod 64, the lowest first, of word p ÷ 64
 abbrev pub bit : List ℕ → ℕ → Bool
@@ -15,6 +15,11 @@ step m f = 1 + f / 4294967296 % (m - 1)
 unfoldable pub position : ℕ → ℕ → ℕ → ℕ
 position m f zero = f % m
 position m f (suc n) = (position m f n + step m f) % m
+
+-- n positions from p on, with a step
+unfoldable pub ahead : ℕ → ℕ → ℕ → ℕ → List ℕ
+ahead m s p zero = []
+ahead m s p (suc n) = p ∷ ahead m s ((p + s) % m) n
 
 -- whether the first n positions of f are all set; the words once they are
 unfoldable pub all_set : List ℕ → ℕ → ℕ → ℕ → Bool

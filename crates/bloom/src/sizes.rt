@@ -10,33 +10,18 @@ pub const MAX_BUDGET: u32 = 16_777_216;
 pub fn sure_count(budget: u32) -> u32
     ensures { Largest (half_of budget) result }
 {
-    let half = budget / 2;
-    if half < 24 {
-        return 0;
+    match budget / 2 {
+        0..=23 => 0,
+        24..=55 => 3,
+        half => 7 << (half / 56).ilog2(),
     }
-    if half < 56 {
-        return 3;
-    }
-    doubled(half)
-}
-
-// The largest of 7, 14, 28 and on whose eightfold is at most this.
-fn doubled(half: u32) -> u32
-    requires { 56 ≤ half }
-    ensures { Largest half result }
-{
-    let mut count = 7;
-    while count <= half / 16 {
-        count *= 2;
-    }
-    count
 }
 
 // How many words a Bloom filter has under a byte budget.
 pub fn bloom_words(budget: u32) -> usize
     ensures { result ≡ words_for budget }
 {
-    ((budget as usize / 2 + 7) / 8).max(1)
+    (budget as usize / 2).div_ceil(8).max(1)
 }
 
 // Memory for the words of a Bloom filter under a byte budget.

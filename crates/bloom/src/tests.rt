@@ -22,14 +22,12 @@ fn sizes_of_budgets(rt: HostRuntime) -> Result<(), Fail> {
 // The bits that a fingerprint sets among 64, with three positions.
 fn bits_of(rt: &impl Abort, heap: Global, f: u64) -> Result<Option<u64>, Fail> {
     let words = allocate_words(heap, 0)?;
-    match BloomFilter::new(0, 3, words) {
-        Ok(mut bloom) => {
-            assert_eq!(rt; bloom.record(f), Ok(()));
-            assert_eq!(rt; bloom.record(f), Err(Cause::Held));
-            Ok(bloom.words.first().copied())
-        }
-        Err(_) => Ok(None),
-    }
+    let Ok(mut bloom) = BloomFilter::new(0, 3, words) else {
+        return Ok(None);
+    };
+    assert_eq!(rt; bloom.record(f), Ok(()));
+    assert_eq!(rt; bloom.record(f), Err(Cause::Held));
+    Ok(bloom.words.first().copied())
 }
 
 #[test]
@@ -61,15 +59,15 @@ fn refusals(rt: HostRuntime) -> Result<(), Fail> {
         return Err(Fail::new("no hash positions"));
     };
     assert_eq!(rt; back.refusal, Refusal::HashCount);
-    let Err(back) = BloomFilter::new(MAX_BUDGET + 1, 64, back.memory) else {
+    let Err(back) = BloomFilter::new(MAX_BUDGET + 1, 64, back.back) else {
         return Err(Fail::new("a budget too large"));
     };
     assert_eq!(rt; back.refusal, Refusal::Capacity);
-    let Err(back) = BloomFilter::new(MAX_BUDGET, 64, back.memory) else {
+    let Err(back) = BloomFilter::new(MAX_BUDGET, 64, back.back) else {
         return Err(Fail::new("too few words"));
     };
     assert_eq!(rt; back.refusal, Refusal::Capacity);
-    assert!(rt; BloomFilter::new(128, 64, back.memory).is_ok());
+    assert!(rt; BloomFilter::new(128, 64, back.back).is_ok());
     Ok(())
 }
 
@@ -79,7 +77,7 @@ fn an_exact_set(rt: HostRuntime) -> Result<(), Fail> {
         return Err(Fail::new("a set without a place"));
     };
     assert_eq!(rt; back.refusal, Refusal::Capacity);
-    let Ok(mut set) = ExactSet::new(2, back.memory) else {
+    let Ok(mut set) = ExactSet::new(2, back.back) else {
         return Err(Fail::new("a set of two"));
     };
     assert_eq!(rt; set.record(7), Ok(()));

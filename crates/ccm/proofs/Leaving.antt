@@ -1,13 +1,24 @@
 -- What a call leaves in the working bytes.
-use Rattle.std.proofs.Common.{◌≡◌, ℕ, ◌+◌, ◌-◌, ◌<◌, ◌≤◌, Bool, true, false, ◌||◌, ltb, ◌⊎◌, List, ◌++◌, length, take, drop, replicate, Some, None, Ok, Option, sym, refl, ap, ◌∙◌, ap₂, inl, inr, arith}
-use Rattle.std.proofs.lemmas.List.{append_assoc, length-append, length-take-le, length-drop, take-take, take_at, drop_at, drop-take}
+use Rattle.std.proofs.Common.{◌≡◌, ℕ, ◌+◌, ◌-◌, ◌<◌, ◌≤◌, Bool, true, false, ◌||◌, ◌⊎◌, List, ◌++◌, length, take, drop, replicate, Some, None, Ok, Option, sym, refl, ap, ◌∙◌, ap₂, inl, inr, arith, nat_lt}
+use Rattle.std.proofs.lemmas.List.{append_assoc, length-append, length-take, length-take-le, length-drop, drop-drop, take-take, take_at, drop_at, drop-take}
 use lib.Seq.{take-append-add}
+use borrow.Rule.Slice.PartMut.{put_mid}
 use Rattle.std.proofs.lemmas.Slice.{drop-append-drop}
 use Rattle.std.proofs.lemmas.Bool.{le-ltb, lt-ltb, or_from, cond-false, cond-true}
 use Rattle.answers.specs.Buffers.{fronted}
 use Rattle.sealing.specs.Sealing.{Seals, Opens}
 use Rattle.sealing.specs.Tokens.{wiped}
 use Rattle.ccm.specs.Scheme.{keyless, left}
+
+-- working bytes over whose last 32, or over all of which, zeros were written
+module _ (w zeros : List ℕ) (room : 96 ≤ length w) where
+  pub key_filled : zeros ≡ replicate (length (take 32 (drop 64 w))) 0 → put_mid 64 32 w zeros ≡ keyless w
+  key_filled e =
+      let wide : length (take 32 (drop 64 w)) ≡ 32 = simp (length-take, length-drop) (omega arith) in
+      ap₂ (λ (key rest : List ℕ). take 64 w ++ (key ++ rest)) (e ∙ ap (λ (n : ℕ). replicate n 0) wide) (drop-drop 32 64 w)
+
+  pub all_filled : zeros ≡ replicate (length (take 96 w)) 0 → put_mid 0 96 w zeros ≡ wiped w
+  all_filled e = ap (λ (z : List ℕ). z ++ drop 96 w) (e ∙ ap (λ (n : ℕ). replicate n 0) (length-take-le 96 w room))
 
 -- working bytes before and after the key was derived: the first 64 and those past 96 are the same
 module _ (was is : List ℕ) (room : 96 ≤ length was) (front : take 64 is ≡ take 64 was) (past : drop 96 is ≡ drop 96 was) where
@@ -59,13 +70,13 @@ no e = let z : ◌≡◌ {A = ℕ} 0 1 = cc in absurd (omega arith)
 
 -- the answers of a call of seal and of open
 module _ (was : List ℕ) (room : 96 ≤ length was) where
-  enough : ltb (length was) 96 ≡ false
+  enough : nat_lt (length was) 96 ≡ false
   enough = le-ltb (length was) 96 room
 
   pub sealed-left : (image : List ℕ → List ℕ) (content out out' : List ℕ) (len : ℕ) → len ≤ 64 → len + 16 ≤ length out → content ≡ take len was
       → out' ≡ fronted (image content) out → Seals image len was (keyless was) out out' (Ok (len + 16))
   sealed-left image content out out' len few long e after =
-      let s = or_from (ltb 64 len) (ltb (length was) 96 || ltb (length out) (len + 16)) (le-ltb 64 len few) (or_from _ _ enough (le-ltb (length out) (len + 16) long)) in
+      let s = or_from (nat_lt 64 len) (nat_lt (length was) 96 || nat_lt (length out) (len + 16)) (le-ltb 64 len few) (or_from _ _ enough (le-ltb (length out) (len + 16) long)) in
       record {
         answer = sym (cond-false _ _ _ s);
         after = after ∙ ap (λ (x : List ℕ). fronted (image x) out) e;
@@ -100,15 +111,15 @@ left-some b was c o h = ap (left b was) (sym h)
 
 pub left-wiped : (b was : List ℕ) (o : Option (List ℕ)) → 16 ≤ length b → length b ≤ 80 → o ≡ None → wiped was ≡ left b was o
 left-wiped b was o long few h =
-    sym (cond-false (ltb (length b) 16 || ltb 80 (length b)) was (wiped was) (or_from _ _ (le-ltb (length b) 16 long) (le-ltb 80 (length b) few))) ∙ ap (left b was) (sym h)
+    sym (cond-false (nat_lt (length b) 16 || nat_lt 80 (length b)) was (wiped was) (or_from _ _ (le-ltb (length b) 16 long) (le-ltb 80 (length b) few))) ∙ ap (left b was) (sym h)
 
-short_or_long : (b : List ℕ) → (length b < 16) ⊎ (80 < length b) → ltb (length b) 16 || ltb 80 (length b) ≡ true
-short_or_long b (inl h) = ap (λ (x : Bool). x || ltb 80 (length b)) (lt-ltb (length b) 16 h)
-short_or_long b (inr h) = either (ltb (length b) 16) (ltb 80 (length b)) (lt-ltb 80 (length b) h)
+short_or_long : (b : List ℕ) → (length b < 16) ⊎ (80 < length b) → nat_lt (length b) 16 || nat_lt 80 (length b) ≡ true
+short_or_long b (inl h) = ap (λ (x : Bool). x || nat_lt 80 (length b)) (lt-ltb (length b) 16 h)
+short_or_long b (inr h) = either (nat_lt (length b) 16) (nat_lt 80 (length b)) (lt-ltb 80 (length b) h)
   where
     either : (x y : Bool) → y ≡ true → x || y ≡ true
     either true y e = refl
     either false y e = e
 
 pub left_same : (b was : List ℕ) (o : Option (List ℕ)) → (length b < 16) ⊎ (80 < length b) → o ≡ None → was ≡ left b was o
-left_same b was o h e = sym (cond-true (ltb (length b) 16 || ltb 80 (length b)) was (wiped was) (short_or_long b h)) ∙ ap (left b was) (sym e)
+left_same b was o h e = sym (cond-true (nat_lt (length b) 16 || nat_lt 80 (length b)) was (wiped was) (short_or_long b h)) ∙ ap (left b was) (sym e)

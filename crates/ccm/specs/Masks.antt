@@ -1,11 +1,10 @@
 -- A mask is its own inverse.
 use Rattle.std.specs.Prelude.{◌≡◌, ℕ, ◌-◌, ◌*◌, ◌<◌, min, List, ◌++◌, length, take, drop, replicate, bit_xor, slice_index, refl}
-use Rattle.std.proofs.Common.{sym, ap, ap₂, ◌∙◌, inl, inr, zero-add, arith}
+use Rattle.std.proofs.Common.{sym, ap, ap₂, ◌∙◌, zero-add, arith}
 use Rattle.std.specs.Int.Bits.{xor_assoc, xor_self, xor_zero_r}
 use borrow.Rule.Slice.PartMut.{post_of}
-use Rattle.std.proofs.lemmas.List.{ext_get_or, drop-replicate, length-take, length-take-le, length-drop, take_all}
+use Rattle.std.proofs.lemmas.List.{ext_get_or, drop-replicate, length-take, length-drop, take_min}
 use Rattle.std.proofs.lemmas.List.FromFn.{length-map-range_with_len, get_or-map-range_with_len}
-use Rattle.std.proofs.lemmas.Bool.{cases_lt}
 use Rattle.ccm.specs.Mode.{Cipher, part_of, content_block, xored, tag_of, stream_at, mask_at, masked}
 
 pub length-masked : (E : Cipher) (m : List ℕ) → length (masked E m) ≡ length m
@@ -30,20 +29,14 @@ pub length_tag : (E : Cipher) (m : List ℕ) → length (tag_of E m) ≡ 16
 unfolding tag_of xored
 length_tag E m = refl
 
-take_own : (k : ℕ) (xs : List ℕ) → take (length (take k xs)) xs ≡ take k xs
-take_own k xs =
-    elim (cases_lt k (length xs)) [
-      | inl below ↦ ap (λ (n : ℕ). take n xs) (length-take-le k xs (omega (arith, below)))
-      | inr past ↦ ap (λ (n : ℕ). take n xs) (ap length (take_all k xs (omega (arith, past)))) ∙ take_all (length xs) xs (omega arith) ∙ sym (take_all k xs (omega (arith, past)))
-    ]
-
 -- a part of the content at the front of a block of zeros
 pub block_laid : (size : ℕ) (content front : List ℕ) (n len : ℕ) → size ≡ 16 → front ≡ take len (drop (16 * n) content) → len ≡ min (length content - 16 * n) 16
     → front ++ post_of 0 (len - 0) (replicate size 0) ≡ content_block content n
 unfolding content_block
 block_laid size content front n len es ef el =
     let rest = drop (16 * n) content in
-    let lp : length (part_of content n) ≡ len = length-take 16 rest ∙ omega (arith, length-drop (16 * n) content) in
-    let same : take len rest ≡ part_of content n = ap (λ (k : ℕ). take k rest) (sym lp) ∙ take_own 16 rest in
+    let wide : len ≡ min 16 (length rest) = omega (arith, length-drop (16 * n) content) in
+    let lp : length (part_of content n) ≡ len = length-take 16 rest ∙ sym wide in
+    let same : take len rest ≡ part_of content n = ap (λ (k : ℕ). take k rest) wide ∙ take_min 16 rest in
     let zero : len - 0 ≡ length (part_of content n) = omega arith in
     ap₂ ◌++◌ (ef ∙ same) (drop-replicate (len - 0) size 0 ∙ ap₂ (λ (s k : ℕ). replicate (s - k) 0) es zero)

@@ -1,5 +1,5 @@
 -- CCM as a sealing scheme: each nonce has a key of its own, one step of HKDF's expansion of the secret.
-use Rattle.std.specs.Prelude.{ℕ, cond, ◌||◌, List, [], ◌∷◌, ◌++◌, length, take, drop, replicate, Some, None, Option, nat_lt}
+use Rattle.std.specs.Prelude.{ℕ, if◌then◌else◌, ◌||◌, List, [], ◌∷◌, ◌++◌, length, take, drop, replicate, Some, None, Option, nat_lt}
 use Rattle.answers.specs.Buffers.{fronted}
 use Rattle.sealing.specs.Sealing.{Image, Opening, open_by}
 use Rattle.sealing.specs.Tokens.{wiped}
@@ -31,4 +31,4 @@ keyless working = take 64 working ++ (replicate 32 0 ++ drop 96 working)
 -- to be sealed ones leave them as they were
 abbrev pub left : List ℕ → List ℕ → Option (List ℕ) → List ℕ
 left sealed working (Some content) = keyless (fronted content working)
-left sealed working None = cond (nat_lt (length sealed) 16 || nat_lt 80 (length sealed)) working (wiped working)
+left sealed working None = if nat_lt (length sealed) 16 || nat_lt 80 (length sealed) then working else wiped working

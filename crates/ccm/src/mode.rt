@@ -5,6 +5,7 @@ ghost use Rattle.aes.specs.Cipher.{cipher};
 ghost use Rattle.ccm.specs.Mode.{headed as headed_of, content_block, xored, mac as mac_of, tag_of, stream_at, masked};
 
 use aes::Aes256;
+use std::array;
 
 const BLOCK: usize = 16;
 
@@ -17,63 +18,42 @@ const COUNTER_FLAGS: u8 = 2;
 fn headed(flags: u8, n: usize) -> [u8; 16]
     ensures { result ≡ headed_of flags n }
 {
-    [
-        flags,
-        0,
-        0,
-        0,
-        0,
-        0,
-        0,
-        0,
-        0,
-        0,
-        0,
-        0,
-        0,
-        (n / 65536 % 256) as u8,
-        (n / 256 % 256) as u8,
-        (n % 256) as u8,
-    ]
+    let mut block = [0; 16];
+    block[0] = flags;
+    block[13..].copy_from_slice(&n.to_be_bytes()[5..]);
+    block
 }
 
-// Block n of the content, with zeros up to 16 bytes.
-fn content_block(content: &[u8], n: usize) -> [u8; 16]
-    requires { 16 * n < length content.now }
-    ensures { result ≡ content_block content.now n }
+// The first 16 bytes of a part of the content, with zeros up to 16 bytes.
+fn content_block(part: &[u8]) -> [u8; 16]
+    ensures { result ≡ content_block part.now 0 }
 {
-    let at = BLOCK * n;
-    let len = (content.len() - at).min(BLOCK);
+    let len = part.len().min(BLOCK);
     let mut block = [0; 16];
-    block[0..len].copy_from_slice(&content[at..at + len]);
+    block[0..len].copy_from_slice(&part[..len]);
     block
 }
 
 fn xor(a: [u8; 16], b: [u8; 16]) -> [u8; 16]
     ensures { result ≡ xored a b }
 {
-    let mut block = [0; 16];
-    for j in 0..BLOCK {
-        block[j] = a[j] ^ b[j];
-    }
-    block
+    array::from_fn(|j| a[j] ^ b[j])
 }
 
 // CBC-MAC of a content.
 fn mac(aes: &Aes256, content: &[u8]) -> [u8; 16]
-    requires { length content.now ≤ 64 }
     ensures { result ≡ mac_of (cipher aes.now.round_keys) content.now }
 {
-    let mut x = aes.encrypt_block(headed(FIRST_FLAGS, content.len()));
-    for n in 0..(content.len() + BLOCK - 1) / BLOCK {
-        let next = aes.encrypt_block(xor(x, content_block(content, n)));
-        x = next;
-    }
-    x
+    let first = aes.encrypt_block(headed(FIRST_FLAGS, content.len()));
+    content.chunks(BLOCK).fold(
+        first,
+        |x: [u8; 16], part: &[u8]| -> [u8; 16]
+            ensures { result ≡ cipher aes.entry.now.round_keys (xored x (content_block part.now 0)) }
+        { aes.encrypt_block(xor(x, content_block(part))) },
+    )
 }
 
 pub(crate) fn tag(aes: &Aes256, content: &[u8]) -> [u8; 16]
-    requires { length content.now ≤ 64 }
     ensures { result ≡ tag_of (cipher aes.now.round_keys) content.now }
 {
     xor(
@@ -88,11 +68,10 @@ fn key_stream(aes: &Aes256, blocks: usize) -> [u8; 64]
     ensures { (i : ℕ) → i < 16 * blocks → slice_index result i ≡ stream_at (cipher aes.now.round_keys) i }
 {
     let mut stream = [0; 64];
+    // Counted, since the number itself is enciphered.
     for n in 0..blocks {
         let block = aes.encrypt_block(headed(COUNTER_FLAGS, n + 1));
-        for j in 0..BLOCK {
-            stream[BLOCK * n + j] = block[j];
-        }
+        stream[BLOCK * n..BLOCK * n + BLOCK].copy_from_slice(&block);
     }
     stream
 }
@@ -104,7 +83,7 @@ pub(crate) fn mask(aes: &Aes256, bytes: &[u8], out: &mut [u8])
     ensures { out.new ≡ fronted (masked (cipher aes.now.round_keys) bytes.now) out.old }
 {
     let stream = key_stream(aes, (bytes.len() + BLOCK - 1) / BLOCK);
-    for i in 0..bytes.len() {
-        out[i] = bytes[i] ^ stream[i];
+    for (i, byte) in bytes.iter().enumerate() {
+        out[i] = *byte ^ stream[i];
     }
 }

@@ -46,20 +46,6 @@ fn derive(secret: &HmacKey, nonce: &[u8; 16], working: &mut [u8]) -> Aes256
     Aes256::new(&key)
 }
 
-fn wipe_key(working: &mut [u8])
-    requires { 96 ≤ length working.old }
-    ensures { working.new ≡ keyless working.old }
-{
-    working[MAX_CONTENT..WORKING].fill(0);
-}
-
-fn wipe(working: &mut [u8])
-    requires { 96 ≤ length working.old }
-    ensures { working.new ≡ wiped working.old }
-{
-    working[0..WORKING].fill(0);
-}
-
 // Writes the sealed content to the front of `out`.
 fn seal_with(aes: &Aes256, content: &[u8], out: &mut [u8])
     requires few { length content.now ≤ 64 }
@@ -111,7 +97,7 @@ impl SealingScheme for CcmScheme {
         }
         let aes = derive(&self.secret, nonce, working);
         seal_with(&aes, &working[0..len], out);
-        wipe_key(working);
+        working[MAX_CONTENT..WORKING].fill(0);
         Ok(len + TAG)
     }
 
@@ -133,10 +119,10 @@ impl SealingScheme for CcmScheme {
         }
         let aes = derive(&self.secret, nonce, working);
         if !open_with(&aes, sealed, working) {
-            wipe(working);
+            working[0..WORKING].fill(0);
             return Ok(None);
         }
-        wipe_key(working);
+        working[MAX_CONTENT..WORKING].fill(0);
         Ok(Some(sealed.len() - TAG))
     }
 }

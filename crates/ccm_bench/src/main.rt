@@ -1,5 +1,7 @@
 #![tactic(auto)]
 // Times the cipher, the hash and the scheme. Each figure is the least of some rounds.
+ghost use Rattle.std.specs.Prelude.{◌≤◌};
+
 use aes::Aes256;
 use anyhow::anyhow;
 use ccm::CcmScheme;
@@ -15,121 +17,92 @@ const CALLS: u32 = 20_000;
 
 const BLOCKS: usize = 16_384;
 
-// Hundredths of a nanosecond for each of so many calls.
-fn each(nanos: u128, count: u32) -> u128 {
-    nanos.saturating_mul(100) / count.max(1) as u128
+// The least time of some rounds, in hundredths of a nanosecond for each of so many calls.
+fn least_of<F: FnMut()>(rt: &HostRuntime, calls: u32, mut round: F) -> anyhow::Result<u128>
+    requires { F.IsAlwaysCallable round }
+{
+    let mut least = u128::MAX;
+    for _ in 0..ROUNDS {
+        let start = Instant::now(rt)?;
+        round();
+        least = least.min(start.elapsed(rt)?.as_nanos());
+    }
+    Ok(least.saturating_mul(100) / calls.max(1) as u128)
 }
 
 // One block after the other.
 fn cipher(aes: &Aes256, start: [u8; 16]) -> [u8; 16] {
-    let mut block = start;
-    for _ in 0..CALLS {
-        let next = aes.encrypt_block(block);
-        block = next;
-    }
-    block
+    (0..CALLS).fold(start, |block, _| aes.encrypt_block(block))
 }
 
 // The first sixteen bytes, if there are so many.
 fn front(bytes: &[u8]) -> [u8; 16] {
-    let mut front = [0; 16];
-    if bytes.len() >= 16 {
-        front.copy_from_slice(&bytes[0..16]);
-    }
-    front
+    bytes.first_chunk().copied().unwrap_or([0; 16])
 }
 
 // The key of a nonce, which is the front of the next nonce.
 fn derive(secret: &HmacKey, start: [u8; 16]) -> [u8; 16] {
-    let mut nonce = start;
-    for _ in 0..CALLS {
-        let next = front(&secret.expand(&nonce));
-        nonce = next;
-    }
-    nonce
+    (0..CALLS).fold(start, |nonce, _| front(&secret.expand(&nonce)))
 }
 
 // Seals the working bytes' front; the front of what is sealed is the next nonce. Refused only for lengths.
-fn seal(scheme: &CcmScheme, len: usize, working: &mut [u8], out: &mut [u8]) -> u32 {
+fn seal(scheme: &CcmScheme, len: usize, working: &mut [u8], out: &mut [u8]) -> bool {
     let mut nonce = [7; 16];
-    let mut sealed: u32 = 0;
     for _ in 0..CALLS {
-        if scheme.seal(&nonce, len, working, out).is_ok() {
-            sealed = sealed.wrapping_add(1);
+        if scheme.seal(&nonce, len, working, out).is_err() {
+            return false;
         }
-        let next = front(out);
-        nonce = next;
+        nonce = front(out);
     }
-    sealed
+    true
 }
 
 // Opens the same bytes again and again.
-fn open(scheme: &CcmScheme, sealed: &[u8], working: &mut [u8]) -> u32 {
-    let nonce = [7; 16];
-    let mut opened: u32 = 0;
+fn open(scheme: &CcmScheme, sealed: &[u8], working: &mut [u8]) -> bool {
     for _ in 0..CALLS {
-        if let Ok(Some(_)) = scheme.open(&nonce, sealed, working) {
-            opened = opened.wrapping_add(1);
+        if !matches!(scheme.open(&[7; 16], sealed, working), Ok(Some(_))) {
+            return false;
         }
     }
-    opened
+    true
 }
 
-// The least nanoseconds of some rounds of each, and what the chains came to.
+// The least time of each part, and what the chains came to.
 fn measure_parts(rt: &HostRuntime) -> anyhow::Result<()> {
     let aes = Aes256::new(&[1; 32]);
-    let secret = HmacKey::new(&[2; 32]);
-    let message = vec![in rt.alloc(); 3u8; 64 * BLOCKS]?;
     let mut block = [0; 16];
-    let mut nonce = [0; 16];
+    let time = least_of(rt, CALLS, || block = cipher(&aes, [4; 16]))?;
+    println!(rt; "block {time} to {}", block[0])?;
+    let message = vec![in rt.alloc(); 3u8; 64 * BLOCKS]?;
     let mut digest = [0; 32];
-    let mut least = [u128::MAX; 3];
-    for _ in 0..ROUNDS {
-        let start = Instant::now(rt)?;
-        let next = cipher(&aes, [4; 16]);
-        least[0] = least[0].min(start.elapsed(rt)?.as_nanos());
-        block = next;
-        let start = Instant::now(rt)?;
-        let next = sha256::digest(&message);
-        least[1] = least[1].min(start.elapsed(rt)?.as_nanos());
-        digest = next;
-        let start = Instant::now(rt)?;
-        let next = derive(&secret, [5; 16]);
-        least[2] = least[2].min(start.elapsed(rt)?.as_nanos());
-        nonce = next;
-    }
-    println!(rt; "block {} to {}", each(least[0], CALLS), block[0])?;
-    println!(rt;
-        "compression {} to {}",
-        each(least[1], BLOCKS as u32),
-        digest[0]
-    )?;
-    println!(rt; "derivation {} to {}", each(least[2], CALLS), nonce[0])?;
+    let time = least_of(rt, BLOCKS as u32, || digest = sha256::digest(&message))?;
+    println!(rt; "compression {time} to {}", digest[0])?;
+    let secret = HmacKey::new(&[2; 32]);
+    let mut nonce = [0; 16];
+    let time = least_of(rt, CALLS, || nonce = derive(&secret, [5; 16]))?;
+    println!(rt; "derivation {time} to {}", nonce[0])?;
     Ok(())
 }
 
-fn measure_scheme(rt: &HostRuntime, len: usize) -> anyhow::Result<()> {
+fn measure_scheme(rt: &HostRuntime, len: usize) -> anyhow::Result<()>
+    requires { len ≤ 64 }
+{
     let scheme = CcmScheme::new(&[6; 32]);
     let mut working = [8; WORKING];
     let mut out = [0; 80];
     let mut first = [0; 80];
-    let mut least = [u128::MAX; 2];
     let mut good = scheme.seal(&[7; 16], len, &mut working, &mut first).is_ok();
-    for _ in 0..ROUNDS {
-        let start = Instant::now(rt)?;
-        good = good && seal(&scheme, len, &mut working, &mut out) == CALLS;
-        least[0] = least[0].min(start.elapsed(rt)?.as_nanos());
-        if len <= 64 {
-            let start = Instant::now(rt)?;
-            good = good && open(&scheme, &first[0..len + 16], &mut working) == CALLS;
-            least[1] = least[1].min(start.elapsed(rt)?.as_nanos());
-        }
-    }
+    let sealing = least_of(rt, CALLS, || {
+        good = good && seal(&scheme, len, &mut working, &mut out)
+    })?;
+    let opening = least_of(rt, CALLS, || {
+        good = good && open(&scheme, &first[..len + 16], &mut working)
+    })?;
     if !good {
         return Err(anyhow!("a content was not sealed, or not opened"));
     }
-    println!(rt; "seal {len} {} to {}", each(least[0], CALLS), out[0])?;
-    println!(rt; "open {len} {}", each(least[1], CALLS))?;
+    println!(rt; "seal {len} {sealing} to {}", out[0])?;
+    println!(rt; "open {len} {opening}")?;
     Ok(())
 }
 

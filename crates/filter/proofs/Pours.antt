@@ -1,10 +1,10 @@
 -- Fingerprints recorded one after the other, and a filter that goes over.
-use Rattle.std.proofs.Common.{◌≡◌, ℕ, ◌+◌, ◌-◌, ◌<◌, true, false, List, [], ◌∷◌, ◌++◌, length, get_or, take, is_ok, Some, None, Ok, Option, Result, sym, refl, ap, ◌∙◌, ⊎_elim, arith}
-use Rattle.std.proofs.lemmas.Bool.{false≢true, true≢false, eqb-true, eq-eqb, or_cases, or_left, or_right, cases_Bool, cases_eq, both_ways, cond-true, cond-false}
+use Rattle.std.proofs.Common.{◌≡◌, ℕ, ◌+◌, ◌<◌, true, false, List, [], ◌∷◌, ◌++◌, length, slice_index, take, is_ok, Some, None, Ok, Option, Result, sym, refl, ap, ◌∙◌, ⊎_elim, arith}
+use Rattle.std.proofs.lemmas.Bool.{false≢true, true≢false, eqb-true, eq-eqb, or_cases, or_left, or_right, cases_Bool, cond-true, cond-false}
 use Rattle.std.proofs.lemmas.List.{take_more}
 use Rattle.answers.specs.declared.Cause.{Cause}
 use Rattle.filter.specs.declared.turning.Form.TheVariants.{Listing, Over}
-use Rattle.filter.specs.Filter.{Meaning, Recorded, Records}
+use Rattle.filter.specs.Filter.{Meaning, Records}
 use Rattle.filter.specs.Lists.{member, place}
 use Rattle.filter.specs.Turning.{Poured, in_form}
 use Rattle.filter.proofs.Members.{place_in, member_push}
@@ -44,7 +44,7 @@ pub poured_told : (fs : List ℕ) (m m' m'' : Meaning) (i f : ℕ) (o : Option �
     → i < length fs → o ≡ place fs i → o ≡ Some f → Poured (take i fs) m m' → Records f m' m'' r → Poured (take (i + 1) fs) m m''
 poured_told fs m m' m'' i f o r l told some p h =
     let a = place_in fs i l in
-    let e : get_or fs i 0 ≡ f = cc in
+    let e : slice_index fs i ≡ f = cc in
     rw (take_more fs i 0 l, e) (poured_push (take i fs) m m' m'' f r p h)
 
 pub told-some : {P : Type 0} (fs : List ℕ) (i : ℕ) (o : Option ℕ) → i < length fs → o ≡ place fs i → o ≡ None → P
@@ -69,33 +69,3 @@ module _ (s b b' m : Meaning) (fs : List ℕ) (f : ℕ) (one : s.sure ≡ 1) (ju
       counts = refl;
     };
   }
-
--- while it lists, what the set did is what it did: with more than one sure place left, or a fingerprint that is listed
-module _ (s s' b : Meaning) (f : ℕ) (r : Result (Unit {0}) Cause) (h : Records f s s' r) (fine : s.sure ≡ 1 → s.refuses f ≡ true) where
-  kept_listing : is_ok r ≡ true → Recorded f (in_form Listing s b) (in_form Listing s' b)
-  kept_listing k =
-      let t = h.recorded k in
-      let two : s.sure ≡ 1 → ⊥ = λ e. both_ways (is_ok r) (ap is_ok (h.answer ∙ cond-true _ _ _ (fine e))) k in
-      record {
-        now = t.now;
-        kept = t.kept;
-        lower = λ z. let l : s'.sure + 1 ≡ s.sure = t.lower (omega arith) in omega arith;
-        only = λ z. t.only (omega arith);
-        stays = λ z. ⊎_elim (λ (e : s.sure ≡ 1). absurd (two e)) (λ (e : s.sure ≡ 1 → ⊥). let l : s'.sure ≡ 0 = t.stays (omega arith) in omega arith) (cases_eq s.sure 1);
-        counts = ap (λ z. z - 1) t.counts;
-      }
-
-  pub still_lists : Records f (in_form Listing s b) (in_form Listing s' b) r
-  still_lists = record {
-    answer = h.answer;
-    same = λ k. let e = h.same k in record { refused = e.refused; causes = e.causes; sures = ap (λ z. z - 1) e.sures; counts = ap (λ z. z - 1) e.counts };
-    recorded = kept_listing;
-  }
-
--- gone over, what the other did is what it did
-pub still_over : (s b b' : Meaning) (f : ℕ) (r : Result (Unit {0}) Cause) → Records f b b' r → Records f (in_form Over s b) (in_form Over s b') r
-still_over s b b' f r h = record {
-  answer = h.answer;
-  same = λ k. let e = h.same k in record { refused = e.refused; causes = e.causes; sures = refl; counts = refl };
-  recorded = λ k. let t = h.recorded k in record { now = t.now; kept = t.kept; lower = λ z. absurd (omega arith); only = λ z. absurd (omega arith); stays = λ z. refl; counts = refl };
-}

@@ -1,5 +1,5 @@
 -- What a filter means, and what recording and emptying do to that.
-use Rattle.std.specs.Prelude.{◌≡◌, ℕ, ◌+◌, ◌-◌, ◌<◌, Bool, true, false, cond, ◌||◌, List, length, is_ok, Ok, Err, Result, ◌==◌}
+use Rattle.std.specs.Prelude.{◌≡◌, ℕ, ◌+◌, ◌-◌, ◌<◌, Bool, true, false, if◌then◌else◌, ◌||◌, List, length, is_ok, Ok, Err, Result, ◌==◌}
 use Rattle.answers.specs.declared.Cause.{Cause}
 use Rattle.answers.specs.declared.Cause.TheVariants.{Held, Full}
 use Rattle.filter.specs.Lists.{member}
@@ -13,7 +13,7 @@ pub record Meaning : Type 0 where
 
 -- what it answers to a fingerprint
 abbrev pub reply : Meaning → ℕ → Result (Unit {0}) Cause
-reply m f = cond (m.refuses f) (Err (m.cause f)) (Ok tt)
+reply m f = if m.refuses f then Err (m.cause f) else Ok tt
 
 -- nothing of the meaning was altered
 pub record Same (m m' : Meaning) : Type 0 where
@@ -48,7 +48,7 @@ pub record Emptied (m m' : Meaning) : Type 0 where
 abbrev pub exact : List ℕ → ℕ → Meaning
 exact xs capacity = record {
   refuses = λ f. member f xs || (length xs == capacity);
-  cause = λ f. cond (member f xs) Held Full;
+  cause = λ f. if member f xs then Held else Full;
   sure = capacity - length xs;
   count = capacity;
 }

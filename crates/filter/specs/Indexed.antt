@@ -1,5 +1,5 @@
 -- An index into a list of fingerprints: buckets, each a chain of places that leads to earlier ones.
-use Rattle.std.specs.Prelude.{◌≡◌, ℕ, zero, suc, ◌-◌, ◌<◌, cond, List, length, ◌==◌, bit_and, slice_index}
+use Rattle.std.specs.Prelude.{◌≡◌, ℕ, zero, suc, ◌-◌, ◌<◌, if◌then◌else◌, List, length, ◌==◌, bit_and, slice_index}
 
 -- the bucket of a fingerprint among m: its lowest bits, where m is a power of 2
 abbrev pub bucket : ℕ → ℕ → ℕ
@@ -8,7 +8,7 @@ bucket m f = bit_and f (m - 1)
 -- of the places below n, one more than the last whose fingerprint is in bucket b of m; 0 where there is none
 unfoldable pub latest : ℕ → List ℕ → ℕ → ℕ → ℕ
 latest m xs b zero = 0
-latest m xs b (suc n) = cond (bucket m (slice_index xs n) == b) (suc n) (latest m xs b n)
+latest m xs b (suc n) = if bucket m (slice_index xs n) == b then suc n else latest m xs b n
 
 -- the head of each bucket is its last place
 abbrev pub Headed : List ℕ → List ℕ → Type 0

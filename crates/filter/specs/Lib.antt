@@ -3,3 +3,4 @@ pub mod Filter
 pub mod Indexed
 pub mod Memory
 pub mod Turning
+pub mod Sets

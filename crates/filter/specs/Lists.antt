@@ -1,5 +1,5 @@
 -- Lists of fingerprints.
-use Rattle.std.specs.Prelude.{ℕ, Bool, true, false, cond, not, ◌&&◌, ◌||◌, List, [], ◌∷◌, length, Some, None, Option, ◌==◌, nat_lt, slice_index}
+use Rattle.std.specs.Prelude.{ℕ, Bool, true, false, if◌then◌else◌, not, ◌&&◌, ◌||◌, List, [], ◌∷◌, length, Some, None, Option, ◌==◌, nat_lt, slice_index}
 
 -- whether f stands in the list
 abbrev pub member : ℕ → List ℕ → Bool
@@ -13,4 +13,4 @@ distinct (x ∷ xs) = not (member x xs) && distinct xs
 
 -- what stands at a place, from 0
 abbrev pub place : List ℕ → ℕ → Option ℕ
-place xs i = cond (nat_lt i (length xs)) (Some (slice_index xs i)) None
+place xs i = if nat_lt i (length xs) then Some (slice_index xs i) else None

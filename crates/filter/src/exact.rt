@@ -1,14 +1,13 @@
 ghost use Rattle.std.specs.Prelude.{◌≡◌, ℕ, ◌+◌, ◌*◌, ◌<◌, ◌≤◌, true, ◌&&◌, List, [], ◌∷◌, ◌++◌, length, is_ok, IfOk, if◌then◌else◌, vec_len, vec_capacity, MatchResult, nat_le, nat_lt};
 ghost use Rattle.answers.specs.declared.Refusal.TheVariants.{Capacity};
 ghost use Rattle.filter.specs.Memory.{room_of};
-ghost use Rattle.filter.specs.Filter.{Records, Emptied, exact as exactly};
 ghost use Rattle.filter.specs.Lists.{member, distinct};
 ghost use Rattle.filter.specs.Indexed.{bucket as bucket_of, Headed, Chained};
-ghost use Rattle.std.proofs.Common.{rules};
 
-use crate::memory::{Unmade, filled};
-use crate::{Filter, ListingFilter};
-use answers::{Cause, Refusal};
+mod filtering;
+
+use crate::memory::filled;
+use answers::{Refusal, Refused};
 use std::alloc::{AllocError, Global};
 
 // Memory for a set: each place takes one element of `held` and of `links`, and four of `heads`.
@@ -62,14 +61,14 @@ impl Places {
 
 impl ExactSet {
     // An empty set of `capacity` places, at least one, in memory that has as many.
-    pub fn new(capacity: u32, memory: Places) -> Result<ExactSet, Unmade<Places>>
+    pub fn new(capacity: u32, memory: Places) -> Result<ExactSet, Refused<Places>>
         ensures answer { is_ok result ≡ (nat_lt 0 capacity && nat_le capacity (room_of memory)) }
-        ensures cases { MatchResult result (λ s. (s.held.items ≡ []) × (s.capacity ≡ capacity)) (λ e. e ≡ record { refusal = Capacity; memory = memory }) }
+        ensures cases { MatchResult result (λ s. (s.held.items ≡ []) × (s.capacity ≡ capacity)) (λ e. e ≡ record { refusal = Capacity; back = memory }) }
     {
         if capacity == 0 || memory.room() < capacity as usize {
-            return Err(Unmade {
+            return Err(Refused {
                 refusal: Refusal::Capacity,
-                memory,
+                back: memory,
             });
         }
         let Places {
@@ -79,25 +78,36 @@ impl ExactSet {
         } = memory;
         held.clear();
         links.clear();
-        match filled(heads, 0, buckets(capacity)) {
-            Ok(heads) => Ok(ExactSet {
-                held,
-                links,
-                heads,
-                capacity,
-            }),
-            Err(_) => unreachable(),
-        }
+        let heads = filled(heads, 0, buckets(capacity)).unwrap();
+        Ok(ExactSet {
+            held,
+            links,
+            heads,
+            capacity,
+        })
     }
-}
 
-// The bucket of a fingerprint.
-fn bucket(buckets: usize, f: u64) -> usize
-    requires { 0 < buckets }
-    ensures value { result ≡ bucket_of buckets f }
-    ensures bound { result < buckets }
-{
-    (f & (buckets as u64 - 1)) as usize
+    // The bucket of a fingerprint.
+    fn bucket(&self, f: u64) -> usize
+        ensures value { result ≡ bucket_of (length self.now.heads.items) f }
+        ensures bound { result < length self.now.heads.items }
+    {
+        (f & (self.heads.len() as u64 - 1)) as usize
+    }
+
+    // Whether f is held: goes along the chain of its bucket.
+    fn find(&self, f: u64) -> bool
+        ensures { result ≡ member f self.now.held.items }
+    {
+        let mut at = self.heads[self.bucket(f)] as usize;
+        while at != 0 {
+            if self.held[at - 1] == f {
+                return true;
+            }
+            at = self.links[at - 1] as usize;
+        }
+        false
+    }
 }
 
 // How many buckets a set has: the least power of 2 that is at least twice its capacity.
@@ -106,87 +116,5 @@ fn buckets(capacity: u32) -> usize
     ensures least { capacity ≤ result }
     ensures most { result < capacity * 4 }
 {
-    let mut count = 1;
-    while count < capacity as usize * 2 {
-        count *= 2;
-    }
-    count
-}
-
-// Whether f is held: goes along the chain of its bucket.
-fn find(held: &[u64], heads: &[u32], links: &[u32], f: u64) -> bool
-    requires buckets { 0 < length heads.now }
-    requires linked { length links.now ≡ length held.now }
-    requires headed { Headed held.now heads.now }
-    requires chained { Chained held.now heads.now links.now }
-    ensures { result ≡ member f held.now }
-{
-    let mut at = heads[bucket(heads.len(), f)] as usize;
-    while at != 0 {
-        if held[at - 1] == f {
-            return true;
-        }
-        at = links[at - 1] as usize;
-    }
-    false
-}
-
-impl Filter for ExactSet {
-    ghost meaning = { λ s. exactly s.held.items s.capacity };
-
-    fn record(&mut self, f: u64) -> Result<(), Cause>
-        ensures means { Records f (exactly self.old.held.items self.old.capacity) (exactly self.new.held.items self.new.capacity) result }
-        ensures held { self.new.held.items ≡ (if is_ok result then self.old.held.items ++ f ∷ [] else self.old.held.items) }
-    {
-        if find(&self.held, &self.heads, &self.links, f) {
-            return Err(Cause::Held);
-        }
-        let count = self.held.len();
-        if count >= self.capacity as usize {
-            return Err(Cause::Full);
-        }
-        let bucket = bucket(self.heads.len(), f);
-        let earlier = self.heads[bucket];
-        self.links.push_reserved(earlier);
-        self.heads[bucket] = count as u32 + 1;
-        self.held.push_reserved(f);
-        Ok(())
-    }
-
-    fn empty(&mut self)
-        ensures means { Emptied (exactly self.old.held.items self.old.capacity) (exactly self.new.held.items self.new.capacity) }
-        ensures held { self.new.held.items ≡ [] }
-    {
-        self.held.clear();
-        self.links.clear();
-        self.heads.fill(0);
-    }
-}
-
-impl ListingFilter for ExactSet {
-    ghost listed = { λ s. s.held.items };
-
-    ghost once = { Prim.search rules };
-
-    ghost just = { Prim.search rules };
-
-    fn sure(&self) -> usize {
-        self.capacity as usize - self.held.len()
-    }
-
-    fn told(&self) -> usize {
-        self.held.len()
-    }
-
-    fn tell(&self, i: usize) -> Option<u64> {
-        if i < self.held.len() {
-            Some(self.held[i])
-        } else {
-            None
-        }
-    }
-
-    fn holds(&self, f: u64) -> bool {
-        find(&self.held, &self.heads, &self.links, f)
-    }
+    (capacity as usize * 2).next_power_of_two()
 }

@@ -10,7 +10,7 @@ mod turning;
 
 use answers::Cause;
 pub use exact::{ExactSet, Places};
-pub use memory::{Unmade, filled};
+pub use memory::filled;
 pub use turning::{Form, TurningFilter};
 
 // A memory of fingerprints, the low halves of the nonces of used tokens.
@@ -45,14 +45,7 @@ pub trait ListingFilter: Filter {
     fn holds(&self, f: u64) -> bool
         ensures { result ≡ member f (listed self.now) }
     {
-        for i in 0..self.told() {
-            if let Some(g) = self.tell(i) {
-                if g == f {
-                    return true;
-                }
-            }
-        }
-        false
+        (0..self.told()).any(|i| self.tell(i) == Some(f))
     }
 
     ghost once: { (s : Self) → distinct (listed s) ≡ true };

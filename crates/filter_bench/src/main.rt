@@ -7,33 +7,39 @@ use std::time::Instant;
 
 const ROUNDS: u32 = 20;
 
-// The next of a fixed row of fingerprints.
-fn next(x: u64) -> u64 {
-    let y = x
-        .wrapping_mul(6364136223846793005)
-        .wrapping_add(1442695040888963407);
-    y ^ (y >> 29)
-}
+// A fixed row of fingerprints, from one of them on.
+#[derive(Clone, Copy)]
+struct Row(u64);
 
-// Records so many fingerprints from x on, and answers the one after them.
-fn record_all(set: &mut ExactSet, x: u64, count: u32) -> u64 {
-    let mut f = x;
-    for _ in 0..count {
-        let _ = set.record(f);
-        f = next(f);
+impl Iterator for Row {
+    type Item = u64;
+
+    fn next(&mut self) -> Option<u64> {
+        let f = self.0;
+        let y = f
+            .wrapping_mul(6364136223846793005)
+            .wrapping_add(1442695040888963407);
+        self.0 = y ^ (y >> 29);
+        Some(f)
     }
-    f
 }
 
-// How many of these fingerprints are held.
-fn count_held(set: &ExactSet, x: u64, count: u32) -> u64 {
-    let mut f = x;
+// Records so many fingerprints of a row, and answers the rest of it.
+fn record_all(set: &mut ExactSet, mut row: Row, count: u32) -> Row {
+    for f in row.by_ref().take(count as usize) {
+        let _ = set.record(f);
+    }
+    row
+}
+
+// How many of so many fingerprints of a row are held. A loop: by `filter` and `count` a lookup of one held among 1,000 takes
+// 3.4 ns, not 2.4.
+fn count_held(set: &ExactSet, row: Row, count: u32) -> u64 {
     let mut held: u64 = 0;
-    for _ in 0..count {
+    for f in row.take(count as usize) {
         if set.holds(f) {
             held = held.wrapping_add(1);
         }
-        f = next(f);
     }
     held
 }
@@ -51,16 +57,28 @@ struct Costs {
     miss: u128,
 }
 
-// Fills an emptied set to `held`, and measures.
+impl Costs {
+    // The least that each took in two rounds.
+    fn least(self, other: Costs) -> Costs {
+        Costs {
+            record: self.record.min(other.record),
+            hit: self.hit.min(other.hit),
+            miss: self.miss.min(other.miss),
+        }
+    }
+}
+
+// Fills an emptied set to `held`, and measures. The clock is read in line: with each step a closure for one function that
+// times it, a record at 1,000 takes 3.5 ns, not 3.0.
 fn round(rt: &HostRuntime, set: &mut ExactSet, held: u32) -> anyhow::Result<Costs> {
     set.empty();
     let tenth = held / 10;
-    let last = record_all(set, 1, held - tenth);
+    let last = record_all(set, Row(1), held - tenth);
     let start = Instant::now(rt)?;
     let past = record_all(set, last, tenth);
     let record = start.elapsed(rt)?.as_nanos();
     let start = Instant::now(rt)?;
-    let found = count_held(set, 1, held);
+    let found = count_held(set, Row(1), held);
     let hit = start.elapsed(rt)?.as_nanos();
     let start = Instant::now(rt)?;
     let missed = count_held(set, past, held);
@@ -78,10 +96,7 @@ fn measure(rt: &HostRuntime, held: u32) -> anyhow::Result<()> {
     };
     let mut least = round(rt, &mut set, held)?;
     for _ in 0..ROUNDS {
-        let costs = round(rt, &mut set, held)?;
-        least.record = least.record.min(costs.record);
-        least.hit = least.hit.min(costs.hit);
-        least.miss = least.miss.min(costs.miss);
+        least = least.least(round(rt, &mut set, held)?);
     }
     let record = each(least.record, held / 10);
     let hit = each(least.hit, held);

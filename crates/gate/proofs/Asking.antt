@@ -3,7 +3,8 @@ use Rattle.std.proofs.Common.{◌≡◌, ℕ, false, List, [], ◌∷◌, is_ok,
 use Rattle.answers.specs.declared.Refusal.{Refusal}
 use Rattle.token_log.specs.Log.{Query, Answer}
 use Rattle.token_log.specs.Laws.{Call as Asked, Leads as LogLeads}
-use Rattle.gate.specs.Calls.{Terms, Outcome, Arrival, Judged, judge, decided}
+use Rattle.gate.specs.declared.verdict.Verdict.{Verdict}
+use Rattle.gate.specs.Calls.{Judged, Terms, Arrival, judge, decided}
 use Rattle.gate.specs.Calls.Judged.{settled, asks}
 use Rattle.gate.specs.Successions.{Call, Follows, Succession}
 use Rattle.gate.specs.Successions.Call.{issuing, arriving}
@@ -42,7 +43,7 @@ module _ {L : Type 0} (R : L → Query → Answer → L → Type 0) (t : Terms) 
     leads = λ zs s3 l. let P : L → Type 0 = λ z. LogLeads R t.validation z zs s3 in u.leads zs s3 (subst P e l);
   }
 
-  arrived : (s s' s'' : L) (x : Arrival) (r : Result Outcome Refusal) (xs : List Call) (j : Result Judged Refusal) → judge t x ≡ j → Follows R t x.destination j r s' s''
+  arrived : (s s' s'' : L) (x : Arrival) (r : Result Verdict Refusal) (xs : List Call) (j : Result Judged Refusal) → judge t x ≡ j → Follows R t x.destination j r s' s''
       → Under s xs s' → Under s (arriving x r ∷ xs) s''
   arrived s s' s'' x r xs (Err n) e w u = quiet s s' s'' (arriving x r) xs (ap honours w.0) w.1 u
   arrived s s' s'' x r xs (Ok (settled o)) e w u = quiet s s' s'' (arriving x r) xs (ap honours w.0 ∙ judge_settled t x o e) w.1 u

@@ -1,29 +1,30 @@
 -- From the parts of an arrival to one step of a succession.
-use Rattle.std.proofs.Common.{◌≡◌, ℕ, Bool, true, false, cond, ltb, List, ◌∷◌, length, Ok, Err, Result, sym, refl, ap, ◌∙◌, subst}
+use Rattle.std.proofs.Common.{◌≡◌, ℕ, Bool, true, false, cond, nat_lt, List, ◌∷◌, length, Ok, Err, Result, sym, refl, ap, ◌∙◌, subst}
 use Rattle.answers.specs.declared.Refusal.{Refusal}
 use Rattle.answers.specs.declared.Refusal.TheVariants.{SmallBuffer, LongConnectionId, LateClock}
 use Rattle.wire.specs.declared.types.SocketAddr.{SocketAddr}
-use Rattle.wire.specs.Fields.{then}
+use Rattle.wire.specs.Fields.{and_then}
 use Rattle.wire.proofs.Faithful.{apart, same_ok}
 use Rattle.sealing.specs.Sealing.{Image, Opening}
 use Rattle.sealing.specs.Tokens.{says}
 use Rattle.token_log.specs.Log.{Query, Answer}
 use Rattle.gate.specs.declared.Gate.{Gate}
-use Rattle.gate.specs.Calls.{Terms, Outcome, Arrival, arrival_of, Judged, admitted, weigh, judge}
+use Rattle.gate.specs.declared.verdict.Verdict.{Verdict}
+use Rattle.gate.specs.Calls.{Judged, Terms, Arrival, arrival_of, admitted, weigh, judge}
 use Rattle.gate.specs.Successions.{Call, Follows, Step, Succession, terms, Adds, Unmoved}
 use Rattle.gate.specs.Successions.Call.{arriving}
 use Rattle.gate.specs.Successions.Succession.{then as followed}
 
 -- an id that is admitted is the destination id
 passed : (a b e : Bool) (m n k : Refusal) (d id : List ℕ)
-    → ◌≡◌ {A = Result (List ℕ) Refusal} (Ok id) (cond a (Err m) (then (cond b (Err n) (Ok d)) (λ z. cond e (Err k) (Ok z)))) → id ≡ d
+    → ◌≡◌ {A = Result (List ℕ) Refusal} (Ok id) (cond a (Err m) (and_then (cond b (Err n) (Ok d)) (λ z. cond e (Err k) (Ok z)))) → id ≡ d
 passed true b e m n k d id h = apart m id (sym h)
 passed false true e m n k d id h = apart n id (sym h)
 passed false false true m n k d id h = apart k id (sym h)
 passed false false false m n k d id h = same_ok id d h
 
 pub admits : (working clock : ℕ) (d id : List ℕ) → Ok id ≡ admitted working d clock → id ≡ d
-admits working clock d id h = passed (ltb working 96) (ltb 20 (length d)) (ltb 4294967295999999999 clock) SmallBuffer LongConnectionId LateClock d id h
+admits working clock d id h = passed (nat_lt working 96) (nat_lt 20 (length d)) (nat_lt 4294967295999999999 clock) SmallBuffer LongConnectionId LateClock d id h
 
 module _ (t : Terms) (x : Arrival) where
   judge_refused : (refusal : Refusal) → Err refusal ≡ admitted x.working x.destination x.clock → judge t x ≡ Err refusal
@@ -35,12 +36,12 @@ module _ (t : Terms) (x : Arrival) where
   judge-admitted id h = let k = sym h in rw k
 
 module _ {L : Type 0} (R : L → Query → Answer → L → Type 0) (t : Terms) where
-  pub step_refused : (x : Arrival) (refusal : Refusal) (r : Result Outcome Refusal) (s : L) → Err refusal ≡ admitted x.working x.destination x.clock → r ≡ Err refusal
+  pub step_refused : (x : Arrival) (refusal : Refusal) (r : Result Verdict Refusal) (s : L) → Err refusal ≡ admitted x.working x.destination x.clock → r ≡ Err refusal
       → Step R t s (arriving x r) s
   step_refused x refusal r s h e =
       let P : Result Judged Refusal → Type 0 = λ j. Follows R t x.destination j r s s in subst P (sym (judge_refused t x refusal h)) (e, refl)
 
-  pub step-admitted : (token d id : List ℕ) (address : SocketAddr) (clock : ℕ) (working : List ℕ) (j : Judged) (o : Outcome) (s s' : L) → id ≡ d
+  pub step-admitted : (token d id : List ℕ) (address : SocketAddr) (clock : ℕ) (working : List ℕ) (j : Judged) (o : Verdict) (s s' : L) → id ≡ d
       → Ok id ≡ admitted (length working) d clock → j ≡ weigh t (arrival_of token id address clock working) (says t.opened token) → Follows R t id (Ok j) (Ok o) s s'
       → Step R t s (arriving (arrival_of token d address clock working) (Ok o)) s'
   step-admitted token d id address clock working j o s s' e h q w =
@@ -52,9 +53,9 @@ module _ {L : Type 0} (R : L → Query → Answer → L → Type 0) (t : Terms) 
 module _ {S L : Type 0} (image : S → Image) (opened : S → Opening) (R : L → Query → Answer → L → Type 0) (g g' : Gate S L) (m : Unmoved g g') where
   same_terms : terms image opened g' ≡ terms image opened g
   same_terms =
-      ap (λ z. record { image = image z; opened = opened z; retry = g'.retry.nanos; validation = g'.validation.nanos }) m.scheme
-      ∙ ap (λ z. record { image = image g.scheme; opened = opened g.scheme; retry = z.nanos; validation = g'.validation.nanos }) m.retry
-      ∙ ap (λ z. record { image = image g.scheme; opened = opened g.scheme; retry = g.retry.nanos; validation = z.nanos }) m.validation
+      ap (λ z. record { image = image z; opened = opened z; retry = g'.retry; validation = g'.validation }) m.scheme
+      ∙ ap (λ z. record { image = image g.scheme; opened = opened g.scheme; retry = z; validation = g'.validation }) m.retry
+      ∙ ap (λ z. record { image = image g.scheme; opened = opened g.scheme; retry = g.retry; validation = z }) m.validation
 
   pub adds : (x : Call) → Step R (terms image opened g) g.log x g'.log → Adds image opened R x g g'
   adds x w s xs l = let P : Terms → Type 0 = λ t. Succession R t s (x ∷ xs) g'.log in subst P (sym same_terms) (followed l w)

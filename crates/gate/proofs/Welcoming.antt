@@ -2,8 +2,7 @@
 use Rattle.std.proofs.Common.{◌≡◌, ℕ, ◌<◌, true, cond, List, [], ◌∷◌, Some, Ok, Result, sym, refl, ap, ◌∙◌, subst, inl, inr, ⊎_elim, arith}
 use Rattle.std.proofs.lemmas.Bool.{false≢true, ltb-true, leb-true, eqb-true, and_parts, or_cases, cases_Bool}
 use Rattle.answers.specs.declared.Refusal.{Refusal}
-use Rattle.wire.specs.Content.{id_bytes}
-use Rattle.wire.specs.Content.Content.{retry, validation}
+use Rattle.wire.specs.declared.types.TokenPayload.TheVariants.{Retry, Validation}
 use Rattle.sealing.specs.Tokens.{low_of, says}
 use Rattle.sealing.specs.Laws.{AWrittenTokenSaysItsContent}
 use Rattle.filter.specs.Filter.{Meaning}
@@ -11,7 +10,8 @@ use Rattle.token_log.specs.declared.two_generations.TwoGenerationLog.{TwoGenerat
 use Rattle.token_log.specs.Log.{expiry}
 use Rattle.token_log.specs.Generations.{Logs, Unused}
 use Rattle.token_log.specs.Laws.{Call as Asked, accepted, has, past, excused, Welcomed, EveryFreshPairIsAccepted}
-use Rattle.gate.specs.Calls.{Terms, Outcome, Issue, FitsIssue, Judged, second, token_issued, weigh, judge}
+use Rattle.gate.specs.declared.verdict.Verdict.{Verdict}
+use Rattle.gate.specs.Calls.{Judged, Terms, Issue, FitsIssue, second, token_issued, weigh, judge}
 use Rattle.gate.specs.Calls.Judged.{asks}
 use Rattle.gate.specs.Successions.{Call, Follows, Step, Succession}
 use Rattle.gate.specs.Successions.Call.{issuing, arriving}
@@ -50,7 +50,7 @@ module _ (t : Terms) where
   counted (x ∷ xs) ks (silent h m) = let p = counted xs ks m in let q = ap (λ b. cond {A = ℕ} b 1 0) h in omega arith
   counted (x ∷ xs) (k ∷ ks) (asked h p m) = let e = counted xs ks m in let q = ap (λ b. cond {A = ℕ} b 1 0) h in omega arith
 
-  turned : (c : ℕ) (r : Result Outcome Refusal) (xs : List Call) (k : Asked) (ks : List Asked) → Mirrors t xs ks → excused c t.validation k ks ≡ true
+  turned : (c : ℕ) (r : Result Verdict Refusal) (xs : List Call) (k : Asked) (ks : List Asked) → Mirrors t xs ks → excused c t.validation k ks ≡ true
       → Stands c t k.low (expiry t.validation k.issued) r xs
   turned c r xs k ks m e =
       ⊎_elim (λ a. low_taken (taken k.low xs ks m a))
@@ -59,23 +59,23 @@ module _ (t : Terms) where
       (or_cases _ _ e)
 
 module _ (t : Terms) (written : AWrittenTokenSaysItsContent t.image t.opened) where
-  says_issued : (i : Issue) (token : List ℕ) → FitsIssue i → token_issued t i ≡ Ok token → says t.opened token ≡ Ok (validation i.ip (second i.clock))
+  says_issued : (i : Issue) (token : List ℕ) → FitsIssue i → token_issued t i ≡ Ok token → says t.opened token ≡ Ok (Validation i.ip (second i.clock))
   says_issued i token f h =
       let o = issued_of t i token h in
-      ap (says t.opened) (sym o.1) ∙ (written i.low i.high (validation i.ip (second i.clock)) f.0 (f.1, o.0)).said
+      ap (says t.opened) (sym o.1) ∙ (written i.low i.high (Validation i.ip (second i.clock)) f.0 (f.1, o.0)).said
 
   pub carries_issued : AnIssuedTokenCarriesItsPair t
   carries_issued i token f h =
       let o = issued_of t i token h in
-      let low = ap low_of (sym o.1) ∙ (written i.low i.high (validation i.ip (second i.clock)) f.0 (f.1, o.0)).half in
+      let low = ap low_of (sym o.1) ∙ (written i.low i.high (Validation i.ip (second i.clock)) f.0 (f.1, o.0)).half in
       ap (pair_of token) (says_issued i token f h) ∙ ap (λ z. Some (z, second i.clock)) low
 
   pub validates : ARetryTokenValidatesItsAddress t
   validates nonce slip clock room working x f h e d a =
       let o = retried_of t.image nonce slip clock room working x.token h in
-      let content = retry slip.address (id_bytes slip.destination) (second clock) in
+      let content = Retry slip.address slip.destination (second clock) in
       let y : says t.opened x.token ≡ Ok content = ap (says t.opened) (sym o.1) ∙ (written nonce.low nonce.high content f.0 (f.1, f.2, o.0)).said in
-      judge-admitted t x a ∙ ap (λ z. Ok (weigh t x z)) y ∙ ap Ok (due_validated t x slip.address (id_bytes slip.destination) (second clock) e d)
+      judge-admitted t x a ∙ ap (λ z. Ok (weigh t x z)) y ∙ ap Ok (due_validated t x slip.address slip.destination (second clock) e d)
 
   module _ {F : Type 0} (m : F → Meaning) (law : EveryFreshPairIsAccepted m) (positive : 0 < t.validation) where
     -- what an issue of a succession was answered

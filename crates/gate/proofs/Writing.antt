@@ -1,17 +1,16 @@
 -- From the steps of a call that writes a token to what it leaves.
-use Rattle.std.proofs.Common.{◌≡◌, ℕ, ◌<◌, ◌≤◌, Bool, true, false, cond, ◌||◌, ltb, List, length, take, drop, is_ok, IfOk, Ok, Err, Result, sym, refl, ap, ◌∙◌, arith}
+use Rattle.std.proofs.Common.{◌≡◌, ℕ, ◌<◌, ◌≤◌, Bool, true, false, cond, ◌||◌, nat_lt, List, length, take, drop, is_ok, IfOk, Ok, Err, Result, sym, refl, ap, ◌∙◌, arith}
 use Rattle.std.proofs.lemmas.List.{take_at}
 use Rattle.std.proofs.lemmas.Bool.{le-ltb, ltb-false, or_from, cond-true, cond-false}
 use Rattle.std.proofs.lemmas.Result.{IfOk-weaker}
 use Rattle.answers.specs.declared.Refusal.{Refusal}
 use Rattle.answers.specs.Buffers.{fronted}
 use Rattle.sealing.specs.declared.token.Nonce.{Nonce}
-use Rattle.sealing.specs.declared.token.Unsealed.{Unsealed}
+use Rattle.answers.specs.declared.Refused.{Refused}
 use Rattle.sealing.specs.Tokens.{wiped, Wrote}
 use Rattle.answers.specs.declared.Refusal.TheVariants.{SmallBuffer, LateClock, AlreadyRetried}
 use Rattle.wire.proofs.Faithful.{apart, same_ok, then_ok}
-use Rattle.wire.specs.Content.{id_bytes}
-use Rattle.wire.specs.Content.Content.{retry, validation}
+use Rattle.wire.specs.declared.types.TokenPayload.TheVariants.{Retry, Validation}
 use Rattle.sealing.specs.Sealing.{Image}
 use Rattle.sealing.specs.Tokens.{token_for}
 use Rattle.gate.specs.declared.slip.Slip.{Slip}
@@ -23,7 +22,7 @@ pub refused : {E : Type 0} (back : Refusal → E) (token : Result (List ℕ) Ref
 refused back token refusal working out e = rw e (record { answer = refl; within = tt; after = refl; blank = refl })
 
 -- with room enough, writing is not refused
-module _ (token working working' out out' : List ℕ) (nonce : Nonce) (r : Result ℕ Unsealed) (w : Wrote token working working' out out' nonce r)
+module _ (token working working' out out' : List ℕ) (nonce : Nonce) (r : Result ℕ (Refused Nonce)) (w : Wrote token working working' out out' nonce r)
     (room : 81 ≤ length out) (enough : 96 ≤ length working) where
   pub unrefused : r ≡ Ok (length token)
   unrefused = w.answer ∙ cond-false _ _ _ (or_from _ _ (le-ltb (length out) 81 room) (le-ltb (length working) 96 enough))
@@ -48,7 +47,7 @@ written back token bytes working working' out out' r e a b f g =
     }
 
 -- what an issue answered with is what it was to write
-pub wrote_is : (nonce : Nonce) (token : Result (List ℕ) Refusal) (working working' out out' : List ℕ) (r : Result ℕ Unsealed)
+pub wrote_is : (nonce : Nonce) (token : Result (List ℕ) Refusal) (working working' out out' : List ℕ) (r : Result ℕ (Refused Nonce))
     → Writes (with_nonce nonce) token working working' out out' r → wrote out' r ≡ token
 wrote_is nonce (Ok bytes) working working' out out' r w =
     ap (wrote out') w.answer ∙ ap Ok (ap (take (length bytes)) w.after ∙ take_at bytes (drop (length bytes) out) (length bytes) refl)
@@ -60,7 +59,7 @@ module _ (t : Terms) (x : Issue) where
   unfolding token_issued
   issue_refused refusal h = let k = sym h in rw k
 
-  pub issue_written : (seconds : ℕ) → Ok seconds ≡ dated x.room x.working x.clock → token_issued t x ≡ Ok (token_for t.image x.low x.high (validation x.ip seconds))
+  pub issue_written : (seconds : ℕ) → Ok seconds ≡ dated x.room x.working x.clock → token_issued t x ≡ Ok (token_for t.image x.low x.high (Validation x.ip seconds))
   unfolding token_issued
   issue_written seconds h = let k = sym h in rw k
 
@@ -75,7 +74,7 @@ module _ (image : Image) (nonce : Nonce) (slip : Slip) (clock room working : ℕ
   retry_again seconds h e = let k = sym h in rw (k, e)
 
   pub retry_written : (seconds : ℕ) → Ok seconds ≡ dated room working clock → is_retried slip.validation ≡ false
-      → token_retried image nonce slip clock room working ≡ Ok (token_for image nonce.low nonce.high (retry slip.address (id_bytes slip.destination) seconds))
+      → token_retried image nonce slip clock room working ≡ Ok (token_for image nonce.low nonce.high (Retry slip.address slip.destination seconds))
   unfolding token_retried
   retry_written seconds h e = let k = sym h in rw (k, e)
 
@@ -87,17 +86,17 @@ tests false false m n s u h = (refl, same_ok s u h)
 
 dated_ok : (room working clock s : ℕ) → dated room working clock ≡ Ok s → (second clock < 4294967296) × (second clock ≡ s)
 dated_ok room working clock s h =
-    let d = tests (ltb room 81 || ltb working 96) (ltb 4294967295999999999 clock) SmallBuffer LateClock (second clock) s h in
+    let d = tests (nat_lt room 81 || nat_lt working 96) (nat_lt 4294967295999999999 clock) SmallBuffer LateClock (second clock) s h in
     let k : clock ≤ 4294967295999999999 = ltb-false _ _ d.0 in (omega arith, d.1)
 
 -- the token of an issue that was not refused
 pub issued_of : (t : Terms) (i : Issue) (token : List ℕ) → token_issued t i ≡ Ok token
-    → (second i.clock < 4294967296) × (token_for t.image i.low i.high (validation i.ip (second i.clock)) ≡ token)
+    → (second i.clock < 4294967296) × (token_for t.image i.low i.high (Validation i.ip (second i.clock)) ≡ token)
 unfolding token_issued
 issued_of t i token h =
     let w = then_ok (dated i.room i.working i.clock) _ token h in
     let d = dated_ok i.room i.working i.clock w.0 w.1 in
-    (d.0, ap (λ z. token_for t.image i.low i.high (validation i.ip z)) d.1 ∙ same_ok _ _ w.2)
+    (d.0, ap (λ z. token_for t.image i.low i.high (Validation i.ip z)) d.1 ∙ same_ok _ _ w.2)
 
 -- and of a retry
 unless : (b : Bool) (m : Refusal) (token u : List ℕ) → cond b (Err m) (Ok token) ≡ Ok u → token ≡ u
@@ -105,9 +104,9 @@ unless true m token u h = apart m u h
 unless false m token u h = same_ok token u h
 
 pub retried_of : (image : Image) (nonce : Nonce) (slip : Slip) (clock room working : ℕ) (token : List ℕ) → token_retried image nonce slip clock room working ≡ Ok token
-    → (second clock < 4294967296) × (token_for image nonce.low nonce.high (retry slip.address (id_bytes slip.destination) (second clock)) ≡ token)
+    → (second clock < 4294967296) × (token_for image nonce.low nonce.high (Retry slip.address slip.destination (second clock)) ≡ token)
 unfolding token_retried
 retried_of image nonce slip clock room working token h =
     let w = then_ok (dated room working clock) _ token h in
     let d = dated_ok room working clock w.0 w.1 in
-    (d.0, ap (λ z. token_for image nonce.low nonce.high (retry slip.address (id_bytes slip.destination) z)) d.1 ∙ unless _ _ _ _ w.2)
+    (d.0, ap (λ z. token_for image nonce.low nonce.high (Retry slip.address slip.destination z)) d.1 ∙ unless _ _ _ _ w.2)

@@ -1,5 +1,5 @@
 -- The calls of a gate: what each brings, what it is answered, and what becomes of buffers and log.
-use Rattle.std.specs.Prelude.{◌≡◌, ℕ, ◌/◌, ◌<◌, ◌≤◌, Bool, true, false, cond, ◌||◌, List, length, take, IfOk, Some, None, Ok, Err, Option, Result, nat_le, nat_lt}
+use Rattle.std.specs.Prelude.{◌≡◌, ℕ, ◌/◌, ◌<◌, ◌≤◌, Bool, true, false, ◌||◌, List, length, take, IfOk, Some, None, Ok, Err, Option, Result, nat_le, nat_lt, if◌then◌else◌}
 use Rattle.answers.specs.declared.Cause.{Cause}
 use Rattle.answers.specs.declared.Cause.TheVariants.{OtherIp, Expired, OtherAddress, RetryExpired}
 use Rattle.answers.specs.declared.Refusal.{Refusal}
@@ -8,13 +8,13 @@ use Rattle.answers.specs.Numbers.{cause_number}
 use Rattle.answers.specs.Buffers.{fronted}
 use Rattle.wire.specs.declared.types.IpAddr.{IpAddr}
 use Rattle.wire.specs.declared.types.SocketAddr.{SocketAddr}
-use Rattle.wire.specs.declared.types.ConnectionId.{ConnectionId}
-use Rattle.wire.specs.Fields.{then}
-use Rattle.wire.specs.Content.{Content, same_ip, same_addr, id_bytes, id_from}
-use Rattle.wire.specs.Content.Content.{retry, validation}
+use Rattle.wire.specs.Fields.{and_then}
+use Rattle.wire.specs.declared.types.TokenPayload.{TokenPayload}
+use Rattle.wire.specs.Content.{same_ip, same_addr, id_from}
+use Rattle.wire.specs.declared.types.TokenPayload.TheVariants.{Retry, Validation}
 use Rattle.wire.specs.Laws.{SoundIp, SoundAddr}
 use Rattle.sealing.specs.declared.token.Nonce.{Nonce}
-use Rattle.sealing.specs.declared.token.Unsealed.{Unsealed}
+use Rattle.answers.specs.declared.Refused.{Refused}
 use Rattle.sealing.specs.Sealing.{Image, Opening}
 use Rattle.sealing.specs.Tokens.{token_for, low_of, says, wiped}
 use Rattle.token_log.specs.Log.{Answer, expiry}
@@ -26,7 +26,6 @@ use Rattle.gate.specs.declared.verdict.Weighed.TheVariants.{Settled, Asks}
 use Rattle.gate.specs.declared.slip.AddressValidation.{AddressValidation}
 use Rattle.gate.specs.declared.slip.AddressValidation.TheVariants.{Missing, ByToken, ByRetry}
 use Rattle.gate.specs.declared.slip.Slip.{Slip}
-use Rattle.gate.specs.declared.slip.RefusedRetry.{RefusedRetry}
 
 -- what no call alters: how tokens are sealed and opened, and the lifetimes of retry and validation tokens
 pub record Terms : Type 0 where
@@ -35,30 +34,18 @@ pub record Terms : Type 0 where
   pub retry : ℕ
   pub validation : ℕ
 
--- what an arrival gets: the id that its retry token was sent from, if there was one, and its original id; or a cause
-pub data Outcome : Type 0 where
-  validated : Option (List ℕ) → List ℕ → Outcome
-  unvalidated : Cause → List ℕ → Outcome
-  rejected : Cause → Outcome
+-- the number of a verdict: that of its cause, or 0
+abbrev pub verdict_number : Verdict → ℕ
+verdict_number (Validated source original) = 0
+verdict_number (Unvalidated cause original) = cause_number cause
+verdict_number (Rejected cause) = cause_number cause
 
--- the number of an outcome: that of its cause, or 0
-abbrev pub outcome_number : Outcome → ℕ
-outcome_number (validated source original) = 0
-outcome_number (unvalidated cause original) = cause_number cause
-outcome_number (rejected cause) = cause_number cause
-
--- what a slip says: the address and the destination id of its arrival, and how the address was validated
-pub record Owed : Type 0 where
-  pub address : SocketAddr
-  pub destination : List ℕ
-  pub validation : AddressValidation
-
--- the slip of an arrival, by its outcome
-abbrev pub owed : SocketAddr → List ℕ → Outcome → Option Owed
-owed a d (validated (Some source) original) = Some (record { address = a; destination = d; validation = ByRetry })
-owed a d (validated None original) = Some (record { address = a; destination = d; validation = ByToken })
-owed a d (unvalidated cause original) = Some (record { address = a; destination = d; validation = Missing })
-owed a d (rejected cause) = None
+-- the slip of an arrival, by its verdict
+abbrev pub owed : SocketAddr → List ℕ → Verdict → Option Slip
+owed a d (Validated (Some source) original) = Some (record { address = a; destination = d; validation = ByRetry })
+owed a d (Validated None original) = Some (record { address = a; destination = d; validation = ByToken })
+owed a d (Unvalidated cause original) = Some (record { address = a; destination = d; validation = Missing })
+owed a d (Rejected cause) = None
 
 -- what an issue brings: a drawn nonce, an IP, a clock reading, and the lengths of both buffers
 pub record Issue : Type 0 where
@@ -100,12 +87,14 @@ in_date lifetime seconds clock = nat_le clock (expiry lifetime seconds)
 -- the second that a written token is dated by, or the refusal, by the lengths of both buffers and the clock reading
 abbrev pub dated : ℕ → ℕ → ℕ → Result ℕ Refusal
 dated room working clock =
-    cond (nat_lt room 81 || nat_lt working 96) (Err SmallBuffer) (cond (nat_lt 4294967295999999999 clock) (Err LateClock) (Ok (second clock)))
+    if nat_lt room 81 || nat_lt working 96 then Err SmallBuffer
+    else if nat_lt 4294967295999999999 clock then Err LateClock
+    else Ok (second clock)
 
 -- what an issue writes: a validation token for the IP
 unfoldable pub token_issued : Terms → Issue → Result (List ℕ) Refusal
 token_issued t x =
-    then (dated x.room x.working x.clock) (λ seconds. Ok (token_for t.image x.low x.high (validation x.ip seconds)))
+    and_then (dated x.room x.working x.clock) (λ seconds. Ok (token_for t.image x.low x.high (Validation x.ip seconds)))
 
 -- whether a token validated the address; whether a retry token did
 abbrev pub is_validated : AddressValidation → Bool
@@ -120,13 +109,13 @@ is_retried ByRetry = true
 
 -- what the types of the code say of what a retry brings
 abbrev pub FitsRetry : Nonce → Slip → Type 0
-FitsRetry nonce slip = (nonce.low < 18446744073709551616) × SoundAddr slip.address × (length (id_bytes slip.destination) ≤ 20)
+FitsRetry nonce slip = (nonce.low < 18446744073709551616) × SoundAddr slip.address × (length slip.destination ≤ 20)
 
 -- what a retry writes: a retry token for the slip's address, with its destination id as the original id
 unfoldable pub token_retried : Image → Nonce → Slip → ℕ → ℕ → ℕ → Result (List ℕ) Refusal
 token_retried image nonce slip clock room working =
-    then (dated room working clock) (λ seconds.
-    cond (is_retried slip.validation) (Err AlreadyRetried) (Ok (token_for image nonce.low nonce.high (retry slip.address (id_bytes slip.destination) seconds))))
+    and_then (dated room working clock) (λ seconds.
+    if is_retried slip.validation then Err AlreadyRetried else Ok (token_for image nonce.low nonce.high (Retry slip.address slip.destination seconds)))
 
 -- the answer of a call that writes a token: its length, or what comes back with a refusal
 abbrev pub answer_to : {E : Type 0} → (Refusal → E) → Result (List ℕ) Refusal → Result ℕ E
@@ -143,11 +132,11 @@ working_after (Ok a) working = wiped working
 working_after (Err e) working = working
 
 -- what comes back with a refused issue, and with a refused retry
-abbrev pub with_nonce : Nonce → Refusal → Unsealed
-with_nonce nonce refusal = record { refusal = refusal; nonce = nonce }
+abbrev pub with_nonce : Nonce → Refusal → Refused Nonce
+with_nonce nonce refusal = record { refusal = refusal; back = nonce }
 
-abbrev pub with_slip : Slip → Nonce → Refusal → RefusedRetry
-with_slip slip nonce refusal = record { refusal = refusal; slip = slip; nonce = nonce }
+abbrev pub with_slip : Slip → Nonce → Refusal → Refused (Slip × Nonce)
+with_slip slip nonce refusal = record { refusal = refusal; back = (slip, nonce) }
 
 -- a call that was to write a token wrote it, and wiped the working bytes; or it was refused, and wrote nothing
 pub record Writes {E : Type 0} (back : Refusal → E) (token : Result (List ℕ) Refusal) (working working' out out' : List ℕ) (r : Result ℕ E) : Type 0 where
@@ -159,57 +148,45 @@ pub record Writes {E : Type 0} (back : Refusal → E) (token : Result (List ℕ)
 -- the destination id of an arrival that is not refused
 abbrev pub admitted : ℕ → List ℕ → ℕ → Result (List ℕ) Refusal
 admitted working destination clock =
-    cond (nat_lt working 96) (Err SmallBuffer)
-    (then (id_from destination) (λ id. cond (nat_lt 4294967295999999999 clock) (Err LateClock) (Ok id)))
+    if nat_lt working 96 then Err SmallBuffer
+    else and_then (id_from destination) (λ id. if nat_lt 4294967295999999999 clock then Err LateClock else Ok id)
 
--- what an arrival alone decides: its outcome, or to ask the log about a low half and an issue time
+-- what an arrival alone decides: its verdict, or to ask the log about a low half and an issue time
 pub data Judged : Type 0 where
-  settled : Outcome → Judged
+  settled : Verdict → Judged
   asks : ℕ → ℕ → Judged
 
--- by what its token says, each test in its order
-abbrev pub weigh : Terms → Arrival → Result Content Cause → Judged
-weigh t x (Err cause) = settled (unvalidated cause x.destination)
-weigh t x (Ok (retry address original seconds)) =
-    cond (same_addr address x.address)
-    (cond (in_date t.retry seconds x.clock) (settled (validated (Some x.destination) original)) (settled (rejected RetryExpired)))
-    (settled (rejected OtherAddress))
-weigh t x (Ok (validation ip seconds)) =
-    cond (same_ip ip x.address.ip)
-    (cond (in_date t.validation seconds x.clock) (asks (low_of x.token) seconds) (settled (unvalidated Expired x.destination)))
-    (settled (unvalidated OtherIp x.destination))
-
-unfoldable pub judge : Terms → Arrival → Result Judged Refusal
-judge t x = then (admitted x.working x.destination x.clock) (λ id. Ok (weigh t x (says t.opened x.token)))
-
--- what the log's answer makes of an arrival that asks
-abbrev pub decided : List ℕ → Answer → Outcome
-decided destination (Ok taken) = validated None destination
-decided destination (Err cause) = unvalidated cause destination
-
--- what the code's answers mean
-abbrev pub source_of : Option ConnectionId → Option (List ℕ)
-source_of None = None
-source_of (Some id) = Some (id_bytes id)
-
-abbrev pub outcome : Verdict → Outcome
-outcome (Validated source original) = validated (source_of source) (id_bytes original)
-outcome (Unvalidated cause original) = unvalidated cause (id_bytes original)
-outcome (Rejected cause) = rejected cause
-
+-- the same as the code has it
 abbrev pub judged_by : Weighed → Judged
-judged_by (Settled verdict) = settled (outcome verdict)
+judged_by (Settled verdict) = settled verdict
 judged_by (Asks low seconds) = asks low seconds
 
-abbrev pub told : Result Arrived Refusal → Result Outcome Refusal
-told (Ok arrived) = Ok (outcome arrived.verdict)
+-- by what its token says, each test in its order
+abbrev pub weigh : Terms → Arrival → Result TokenPayload Cause → Judged
+weigh t x (Err cause) = settled (Unvalidated cause x.destination)
+weigh t x (Ok (Retry address original seconds)) =
+    if same_addr address x.address
+    then (if in_date t.retry seconds x.clock then settled (Validated (Some x.destination) original) else settled (Rejected RetryExpired))
+    else settled (Rejected OtherAddress)
+weigh t x (Ok (Validation ip seconds)) =
+    if same_ip ip x.address.ip
+    then (if in_date t.validation seconds x.clock then asks (low_of x.token) seconds else settled (Unvalidated Expired x.destination))
+    else settled (Unvalidated OtherIp x.destination)
+
+unfoldable pub judge : Terms → Arrival → Result Judged Refusal
+judge t x = and_then (admitted x.working x.destination x.clock) (λ id. Ok (weigh t x (says t.opened x.token)))
+
+-- what the log's answer makes of an arrival that asks
+abbrev pub decided : List ℕ → Answer → Verdict
+decided destination (Ok taken) = Validated None destination
+decided destination (Err cause) = Unvalidated cause destination
+
+-- the verdict that an arrival was answered with
+abbrev pub told : Result Arrived Refusal → Result Verdict Refusal
+told (Ok arrived) = Ok arrived.verdict
 told (Err refusal) = Err refusal
 
-abbrev pub slip_of : Option Slip → Option Owed
-slip_of None = None
-slip_of (Some slip) = Some (record { address = slip.address; destination = id_bytes slip.destination; validation = slip.validation })
-
 -- the bytes of the token that an issue answered with
-abbrev pub wrote : List ℕ → Result ℕ Unsealed → Result (List ℕ) Refusal
+abbrev pub wrote : List ℕ → Result ℕ (Refused Nonce) → Result (List ℕ) Refusal
 wrote out (Ok n) = Ok (take n out)
-wrote out (Err unsealed) = Err unsealed.refusal
+wrote out (Err back) = Err back.refusal

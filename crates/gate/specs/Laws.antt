@@ -1,10 +1,10 @@
 -- The laws of a gate, over whole successions of calls.
-use Rattle.std.specs.Prelude.{◌≡◌, ℕ, ◌+◌, ◌<◌, ◌≤◌, Bool, true, false, cond, ◌⊎◌, List, [], ◌∷◌, is_ok, Some, None, Ok, Err, Option, Result, ◌≢◌}
+use Rattle.std.specs.Prelude.{◌≡◌, ℕ, ◌+◌, ◌<◌, ◌≤◌, Bool, true, false, ◌⊎◌, List, [], ◌∷◌, is_ok, Some, None, Ok, Err, Option, Result, ◌≢◌, if◌then◌else◌}
 use Rattle.std.specs.List.{AllByRecursion}
 use Rattle.answers.specs.declared.Cause.{Cause}
 use Rattle.answers.specs.declared.Refusal.{Refusal}
-use Rattle.wire.specs.Content.{Content, id_bytes}
-use Rattle.wire.specs.Content.Content.{retry, validation}
+use Rattle.wire.specs.declared.types.TokenPayload.{TokenPayload}
+use Rattle.wire.specs.declared.types.TokenPayload.TheVariants.{Retry, Validation}
 use Rattle.sealing.specs.declared.token.Nonce.{Nonce}
 use Rattle.sealing.specs.Sealing.{Image, Opening}
 use Rattle.sealing.specs.Tokens.{low_of, says}
@@ -14,18 +14,19 @@ use Rattle.token_log.specs.Log.{Query, Answer, issue, expiry}
 use Rattle.token_log.specs.Generations.{Logs, Unused}
 use Rattle.gate.specs.declared.slip.Slip.{Slip}
 use Rattle.gate.specs.declared.Gate.{Gate}
-use Rattle.gate.specs.Calls.{Terms, Outcome, Issue, Arrival, FitsIssue, FitsRetry, second, token_issued, token_retried, admitted, judge}
+use Rattle.gate.specs.declared.verdict.Verdict.{Verdict}
+use Rattle.gate.specs.Calls.{Terms, Issue, Arrival, FitsIssue, FitsRetry, second, token_issued, token_retried, admitted, judge}
 use Rattle.gate.specs.Calls.Judged.{settled}
-use Rattle.gate.specs.Calls.Outcome.{validated, unvalidated, rejected}
+use Rattle.gate.specs.declared.verdict.Verdict.TheVariants.{Validated, Unvalidated, Rejected}
 use Rattle.gate.specs.Successions.{Call, terms, Leads}
 use Rattle.gate.specs.Successions.Call.{issuing, arriving}
 
 -- validated, and not by a retry token
-abbrev pub honours : Result Outcome Refusal → Bool
-honours (Ok (validated None original)) = true
-honours (Ok (validated (Some source) original)) = false
-honours (Ok (unvalidated cause original)) = false
-honours (Ok (rejected cause)) = false
+abbrev pub honours : Result Verdict Refusal → Bool
+honours (Ok (Validated None original)) = true
+honours (Ok (Validated (Some source) original)) = false
+honours (Ok (Unvalidated cause original)) = false
+honours (Ok (Rejected cause)) = false
 honours (Err refusal) = false
 
 abbrev pub honoured : Call → Bool
@@ -33,9 +34,9 @@ honoured (issuing x r) = false
 honoured (arriving x r) = honours r
 
 -- the low half of its nonce and the issue time, where a token says a validation content
-abbrev pub pair_of : List ℕ → Result Content Cause → Option (ℕ × ℕ)
-pair_of token (Ok (retry address original seconds)) = None
-pair_of token (Ok (validation ip seconds)) = Some (low_of token, seconds)
+abbrev pub pair_of : List ℕ → Result TokenPayload Cause → Option (ℕ × ℕ)
+pair_of token (Ok (Retry address original seconds)) = None
+pair_of token (Ok (Validation ip seconds)) = Some (low_of token, seconds)
 pair_of token (Err cause) = None
 
 abbrev pub carried : Opening → List ℕ → Option (ℕ × ℕ)
@@ -67,7 +68,7 @@ abbrev pub NoTokenIsHonouredTwice : {S L : Type 0} → (S → Image) → (S → 
 NoTokenIsHonouredTwice {L = L} image opened R g = (s : L) (xs : List Call) → Leads image opened R s xs g → Once (terms image opened g) xs
 
 -- an arrival that got a verdict, in date, from the IP that an earlier issue wrote its token for
-pub record Due (t : Terms) (i : Issue) (x : Arrival) (r : Result Outcome Refusal) (earlier : List Call) : Type 0 where
+pub record Due (t : Terms) (i : Issue) (x : Arrival) (r : Result Verdict Refusal) (earlier : List Call) : Type 0 where
   pub verdict : is_ok r ≡ true
   pub issue : Exists (λ y. y ≡ issuing i (Ok x.token)) earlier
   pub ip : i.ip ≡ x.address.ip
@@ -84,11 +85,11 @@ pub record Passes (t : Terms) (time : ℕ) (y : Call) : Type 0 where
 
 abbrev pub honoured_among : List Call → ℕ
 honoured_among [] = 0
-honoured_among (x ∷ xs) = cond (honoured x) 1 0 + honoured_among xs
+honoured_among (x ∷ xs) = (if honoured x then 1 else 0) + honoured_among xs
 
 -- honoured, or one of the three exceptions: an earlier honoured arrival has the low half, or one was issued past the time,
 -- or the earlier honoured ones number at least c
-pub data Stands (c : ℕ) (t : Terms) (low time : ℕ) (r : Result Outcome Refusal) (earlier : List Call) : Type 0 where
+pub data Stands (c : ℕ) (t : Terms) (low time : ℕ) (r : Result Verdict Refusal) (earlier : List Call) : Type 0 where
   is_honoured : honours r ≡ true → Stands c t low time r earlier
   low_taken : Exists (Takes t low) earlier → Stands c t low time r earlier
   time_passed : Exists (Passes t time) earlier → Stands c t low time r earlier
@@ -102,7 +103,7 @@ Met c t (arriving x r) earlier =
 -- from an unused log over filters of the sure count c, under a lifetime above zero
 abbrev pub EveryIssuedTokenInDateIsHonoured : {S F : Type 0} → (S → Image) → (S → Opening) → (F → Meaning) → Gate S (TwoGenerationLog F) → Type 0
 EveryIssuedTokenInDateIsHonoured {F = F} image opened m g =
-    (c : ℕ) (s : TwoGenerationLog F) (xs : List Call) → Unused m c s → 0 < g.validation.nanos → Leads image opened (Logs m) s xs g → Each (Met c (terms image opened g)) xs
+    (c : ℕ) (s : TwoGenerationLog F) (xs : List Call) → Unused m c s → 0 < g.validation → Leads image opened (Logs m) s xs g → Each (Met c (terms image opened g)) xs
 
 -- an issued token carries the low half of its nonce and the second of its issue
 abbrev pub AnIssuedTokenCarriesItsPair : Terms → Type 0
@@ -115,4 +116,4 @@ abbrev pub ARetryTokenValidatesItsAddress : Terms → Type 0
 ARetryTokenValidatesItsAddress t =
     (nonce : Nonce) (slip : Slip) (clock room working : ℕ) (x : Arrival) → FitsRetry nonce slip → token_retried t.image nonce slip clock room working ≡ Ok x.token
     → x.address ≡ slip.address → x.clock ≤ expiry t.retry (second clock) → is_ok (admitted x.working x.destination x.clock) ≡ true
-    → judge t x ≡ Ok (settled (validated (Some x.destination) (id_bytes slip.destination)))
+    → judge t x ≡ Ok (settled (Validated (Some x.destination) slip.destination))

@@ -4,18 +4,19 @@ use Rattle.answers.specs.declared.Refusal.{Refusal}
 use Rattle.sealing.specs.Sealing.{Image, Opening}
 use Rattle.token_log.specs.Log.{Query, Answer}
 use Rattle.gate.specs.declared.Gate.{Gate}
-use Rattle.gate.specs.Calls.{Terms, Outcome, Issue, FitsIssue, Arrival, Judged, token_issued, judge, decided}
+use Rattle.gate.specs.declared.verdict.Verdict.{Verdict}
+use Rattle.gate.specs.Calls.{Judged, Terms, Issue, FitsIssue, Arrival, token_issued, judge, decided}
 use Rattle.gate.specs.Calls.Judged.{settled, asks}
 
 -- a call: what it brought, and what it was answered
 pub data Call : Type 0 where
   issuing : Issue → Result (List ℕ) Refusal → Call
-  arriving : Arrival → Result Outcome Refusal → Call
+  arriving : Arrival → Result Verdict Refusal → Call
 
 -- one call, by the account R that a log gives of each query: the log goes from s to s'
 module _ {L : Type 0} (R : L → Query → Answer → L → Type 0) (t : Terms) where
   -- an arrival with this destination id, by what it alone decides
-  abbrev pub Follows : List ℕ → Result Judged Refusal → Result Outcome Refusal → L → L → Type 0
+  abbrev pub Follows : List ℕ → Result Judged Refusal → Result Verdict Refusal → L → L → Type 0
   Follows destination (Err refusal) r s s' = (r ≡ Err refusal) × (s' ≡ s)
   Follows destination (Ok (settled o)) r s s' = (r ≡ Ok o) × (s' ≡ s)
   Follows destination (Ok (asks low seconds)) r s s' =
@@ -32,7 +33,7 @@ module _ {L : Type 0} (R : L → Query → Answer → L → Type 0) (t : Terms) 
 
 -- the terms of a gate
 abbrev pub terms : {S L : Type 0} → (S → Image) → (S → Opening) → Gate S L → Terms
-terms image opened g = record { image = image g.scheme; opened = opened g.scheme; retry = g.retry.nanos; validation = g.validation.nanos }
+terms image opened g = record { image = image g.scheme; opened = opened g.scheme; retry = g.retry; validation = g.validation }
 
 -- the calls xs lead from a gate as it was made, with the log s, to the gate g
 abbrev pub Leads : {S L : Type 0} → (S → Image) → (S → Opening) → (L → Query → Answer → L → Type 0) → L → List Call → Gate S L → Type 0

@@ -1,5 +1,4 @@
 ghost use Rattle.std.specs.Prelude.{◌≡◌, ◌≤◌, OnOk};
-ghost use Rattle.wire.specs.Content.{id_of};
 ghost use Rattle.gate.specs.Calls.{dated, admitted, in_date};
 
 use answers::Refusal;
@@ -28,7 +27,7 @@ pub(crate) fn date(room: usize, working: usize, clock: u64) -> Result<u32, Refus
 
 // The destination id of an arrival that is not refused.
 pub(crate) fn admit(working: usize, destination: &[u8], clock: u64) -> Result<ConnectionId, Refusal>
-    ensures id { id_of result ≡ admitted working destination.now clock }
+    ensures id { result ≡ admitted working destination.now clock }
     ensures enough { OnOk result (96 ≤ working) }
 {
     if working < WORKING {
@@ -43,7 +42,7 @@ pub(crate) fn admit(working: usize, destination: &[u8], clock: u64) -> Result<Co
 
 // Whether a token of that second is in date: until its expiry, inclusive.
 pub(crate) fn in_date(issued: u32, lifetime: Lifetime, clock: u64) -> bool
-    ensures { result ≡ in_date lifetime.nanos issued clock }
+    ensures { result ≡ in_date lifetime issued clock }
 {
     clock <= issued as u64 * SECOND + lifetime.nanos()
 }

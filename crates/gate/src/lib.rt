@@ -1,9 +1,8 @@
 #![tactic(auto)]
 
 ghost use Rattle.std.specs.Prelude.{◌≡◌, ◌≤◌, [], length, IfOk, Ok, OnOk};
-ghost use Rattle.wire.specs.Content.{id_bytes};
 ghost use Rattle.sealing.specs.Tokens.{says, wiped, TokenRead};
-ghost use Rattle.gate.specs.Calls.{Writes, FitsRetry, issue_of, arrival_of, with_nonce, with_slip, token_issued, token_retried, wrote, weigh, judged_by, outcome, told, slip_of, owed, working_after};
+ghost use Rattle.gate.specs.Calls.{Writes, FitsRetry, issue_of, arrival_of, with_nonce, with_slip, token_issued, token_retried, wrote, weigh, judged_by, told, owed, working_after};
 ghost use Rattle.gate.specs.Successions.{terms, Follows, Step, Leads, Adds, Unmoved};
 ghost use Rattle.gate.specs.Successions.Call.{issuing, arriving};
 
@@ -12,14 +11,14 @@ mod laws;
 mod slip;
 mod verdict;
 
-use answers::{Cause, Refusal};
+use answers::{Cause, Refusal, Refused};
 use checks::{admit, date, in_date};
 pub use laws::{
     a_retry_token_in_date_validates_its_address, an_issued_token_carries_its_low_half_and_second,
     every_issued_token_in_date_is_honoured, no_token_is_honoured_twice,
 };
-use sealing::{Nonce, SealingScheme, Token, Unsealed, decode_token, encode_token};
-pub use slip::{Accepted, AddressValidation, RefusedRetry, Slip};
+use sealing::{Nonce, SealingScheme, Token, decode_token, encode_token};
+pub use slip::{Accepted, AddressValidation, Slip};
 use token_log::{Lifetime, TokenLog};
 use verdict::Weighed;
 pub use verdict::{Arrived, Verdict};
@@ -57,7 +56,7 @@ impl<S: SealingScheme, L: TokenLog> Gate<S, L> {
         clock: u64,
         out: &mut [u8],
         working: &mut [u8],
-    ) -> Result<usize, Unsealed>
+    ) -> Result<usize, Refused<Nonce>>
         ensures writes { Writes (with_nonce nonce) (token_issued (terms S.SealingScheme.image S.SealingScheme.opened self.old) (issue_of nonce ip clock out.old working.old)) working.old working.new out.old out.new result }
         ensures kept { self.new ≡ self.old }
         ensures adds { Adds S.SealingScheme.image S.SealingScheme.opened L.TokenLog.logs (issuing (issue_of nonce ip clock out.old working.old) (wrote out.new result)) self.old self.new }
@@ -65,7 +64,10 @@ impl<S: SealingScheme, L: TokenLog> Gate<S, L> {
         wire::ips_are_sound(ip);
         let issued = match date(out.len(), working.len(), clock) {
             Ok(issued) => issued,
-            Err(refusal) => return Err(Unsealed { refusal, nonce }),
+            Err(refusal) => return Err(Refused {
+                refusal,
+                back: nonce,
+            }),
         };
         let payload = TokenPayload::Validation { ip, issued };
         encode_token(&self.scheme, &payload, nonce, working, out)
@@ -83,17 +85,15 @@ impl<S: SealingScheme, L: TokenLog> Gate<S, L> {
     ) -> Result<Arrived, Refusal>
         ensures kept { Unmoved self.old self.new }
         ensures step { Step L.TokenLog.logs (terms S.SealingScheme.image S.SealingScheme.opened self.old) self.old.log (arriving (arrival_of token.now destination.now address clock working.old) (told result)) self.new.log }
-        ensures slip { IfOk result (λ a. slip_of a.slip ≡ owed address destination.now (outcome a.verdict)) }
+        ensures slip { IfOk result (λ a. a.slip ≡ owed address destination.now a.verdict) }
         ensures blank { working.new ≡ working_after result working.old }
         ensures adds { Adds S.SealingScheme.image S.SealingScheme.opened L.TokenLog.logs (arriving (arrival_of token.now destination.now address clock working.old) (told result)) self.old self.new }
     {
         let here = admit(working.len(), destination, clock)?;
         let weighed = self.weigh(token, here, address, clock, working);
         let verdict = self.decide(weighed, here);
-        Ok(Arrived {
-            verdict,
-            slip: verdict.slip(address, here),
-        })
+        let slip = verdict.slip(address, here);
+        Ok(Arrived { verdict, slip })
     }
 
     // What an arrival that is not refused decides alone.
@@ -106,37 +106,37 @@ impl<S: SealingScheme, L: TokenLog> Gate<S, L> {
         working: &mut [u8],
     ) -> Weighed
         requires { 96 ≤ length working.old }
-        ensures value { judged_by result ≡ weigh (terms S.SealingScheme.image S.SealingScheme.opened self.now) (arrival_of token.now (id_bytes here) address clock working.old) (says (S.SealingScheme.opened self.now.scheme) token.now) }
+        ensures value { judged_by result ≡ weigh (terms S.SealingScheme.image S.SealingScheme.opened self.now) (arrival_of token.now here address clock working.old) (says (S.SealingScheme.opened self.now.scheme) token.now) }
         ensures blank { working.new ≡ wiped working.old }
     {
         let token = match read(&self.scheme, token, working) {
             Ok(token) => token,
             Err(cause) => return Weighed::unvalidated(cause, here),
         };
-        match token.payload {
+        match &token.payload {
             TokenPayload::Retry {
                 address: asked,
                 orig_dst_cid,
                 issued,
             } => {
-                if asked != address {
+                if *asked != address {
                     return Weighed::rejected(Cause::OtherAddress);
                 }
-                if !in_date(issued, self.retry, clock) {
+                if !in_date(*issued, self.retry, clock) {
                     return Weighed::rejected(Cause::RetryExpired);
                 }
-                Weighed::retried(here, orig_dst_cid)
+                Weighed::retried(here, *orig_dst_cid)
             }
             TokenPayload::Validation { ip, issued } => {
-                if ip != address.ip {
+                if *ip != address.ip {
                     return Weighed::unvalidated(Cause::OtherIp, here);
                 }
-                if !in_date(issued, self.validation, clock) {
+                if !in_date(*issued, self.validation, clock) {
                     return Weighed::unvalidated(Cause::Expired, here);
                 }
                 Weighed::Asks {
                     low: token.low,
-                    issued,
+                    issued: *issued,
                 }
             }
         }
@@ -145,7 +145,7 @@ impl<S: SealingScheme, L: TokenLog> Gate<S, L> {
     // The verdict: where the arrival alone does not decide, the log's answer does.
     fn decide(&mut self, weighed: Weighed, here: ConnectionId) -> Verdict
         ensures kept { Unmoved self.old self.new }
-        ensures follows { Follows L.TokenLog.logs (terms S.SealingScheme.image S.SealingScheme.opened self.old) (id_bytes here) (Ok (judged_by weighed)) (Ok (outcome result)) self.old.log self.new.log }
+        ensures follows { Follows L.TokenLog.logs (terms S.SealingScheme.image S.SealingScheme.opened self.old) here (Ok (judged_by weighed)) (Ok result) self.old.log self.new.log }
     {
         match weighed {
             Weighed::Settled(verdict) => verdict,
@@ -173,23 +173,21 @@ impl<S: SealingScheme, L: TokenLog> Gate<S, L> {
         clock: u64,
         out: &mut [u8],
         working: &mut [u8],
-    ) -> Result<usize, RefusedRetry>
+    ) -> Result<usize, Refused<(Slip, Nonce)>>
         ensures writes { Writes (with_slip slip nonce) (token_retried (S.SealingScheme.image self.now.scheme) nonce slip clock (length out.old) (length working.old)) working.old working.new out.old out.new result }
         ensures fits { OnOk result (FitsRetry nonce slip) }
     {
         let issued = match date(out.len(), working.len(), clock) {
             Ok(issued) => issued,
-            Err(refusal) => return Err(RefusedRetry {
+            Err(refusal) => return Err(Refused {
                 refusal,
-                slip,
-                nonce,
+                back: (slip, nonce),
             }),
         };
-        if slip.validation.is_retried() {
-            return Err(RefusedRetry {
+        if slip.validation == AddressValidation::ByRetry {
+            return Err(Refused {
                 refusal: Refusal::AlreadyRetried,
-                slip,
-                nonce,
+                back: (slip, nonce),
             });
         }
         let Slip {
@@ -203,10 +201,7 @@ impl<S: SealingScheme, L: TokenLog> Gate<S, L> {
             issued,
         };
         wire::payloads_are_sound(&payload);
-        match encode_token(&self.scheme, &payload, nonce, working, out) {
-            Ok(len) => Ok(len),
-            Err(_) => unreachable(),
-        }
+        Ok(encode_token(&self.scheme, &payload, nonce, working, out).unwrap())
     }
 }
 
@@ -216,8 +211,5 @@ fn read<S: SealingScheme>(scheme: &S, token: &[u8], working: &mut [u8]) -> Resul
     ensures said { TokenRead (S.SealingScheme.opened scheme.now) token.now result }
     ensures blank { working.new ≡ wiped working.old }
 {
-    match decode_token(scheme, token, working) {
-        Ok(said) => said,
-        Err(_) => unreachable(),
-    }
+    decode_token(scheme, token, working).unwrap()
 }

@@ -1,8 +1,6 @@
 ghost use Rattle.std.specs.Prelude.{◌≡◌};
-ghost use Rattle.gate.specs.Calls.{is_validated, is_retried};
+ghost use Rattle.gate.specs.Calls.{is_validated};
 
-use answers::Refusal;
-use sealing::Nonce;
 use wire::{ConnectionId, SocketAddr};
 
 // How an address was validated.
@@ -30,33 +28,6 @@ pub struct Accepted {
     pub validated: bool,
 }
 
-// A retry token that was not written, with the slip and the nonce given back.
-pub struct RefusedRetry {
-    pub refusal: Refusal,
-    pub slip: Slip,
-    pub nonce: Nonce,
-}
-
-impl AddressValidation {
-    fn is_validated(self) -> bool
-        ensures { result ≡ is_validated self }
-    {
-        match self {
-            AddressValidation::Missing => false,
-            AddressValidation::ByToken | AddressValidation::ByRetry => true,
-        }
-    }
-
-    pub(crate) fn is_retried(self) -> bool
-        ensures { result ≡ is_retried self }
-    {
-        match self {
-            AddressValidation::Missing | AddressValidation::ByToken => false,
-            AddressValidation::ByRetry => true,
-        }
-    }
-}
-
 impl Slip {
     // Spends the slip for a connection.
     pub fn accept(self) -> Accepted
@@ -69,7 +40,7 @@ impl Slip {
         } = self;
         Accepted {
             address,
-            validated: validation.is_validated(),
+            validated: validation != AddressValidation::Missing,
         }
     }
 

@@ -1,6 +1,5 @@
 ghost use Rattle.std.specs.Prelude.{◌≡◌, Some};
-ghost use Rattle.wire.specs.Content.{id_bytes};
-ghost use Rattle.gate.specs.Calls.{outcome, outcome_number, owed, slip_of};
+ghost use Rattle.gate.specs.Calls.{verdict_number, owed};
 
 use crate::slip::{AddressValidation, Slip};
 use answers::Cause;
@@ -32,7 +31,8 @@ pub struct Arrived {
     pub slip: Option<Slip>,
 }
 
-// What an arrival alone decides: its verdict, or to ask the log about a low half and an issue time.
+// What an arrival alone decides: its verdict, or to ask the log about a low half and an issue time. No `Result`, as
+// neither is a fault.
 #[derive(Clone, Copy)]
 pub(crate) enum Weighed {
     Settled(Verdict),
@@ -68,9 +68,9 @@ impl Weighed {
 }
 
 impl Verdict {
-    // The number of its cause; 0 if validated.
+    // The number of its cause; 0 if validated. A method and no `From`, as for a cause.
     pub fn number(self) -> u8
-        ensures { result ≡ outcome_number (outcome self) }
+        ensures { result ≡ verdict_number self }
     {
         match self {
             Verdict::Validated { .. } => 0,
@@ -80,14 +80,18 @@ impl Verdict {
     }
 
     // The slip of an arrival with this verdict.
-    pub(crate) fn slip(self, address: SocketAddr, destination: ConnectionId) -> Option<Slip>
-        ensures { slip_of result ≡ owed address (id_bytes destination) (outcome self) }
+    pub(crate) fn slip(&self, address: SocketAddr, destination: ConnectionId) -> Option<Slip>
+        ensures { result ≡ owed address destination self.now }
     {
         let validation = match self {
-            Verdict::Validated { retry_src_cid, .. } => match retry_src_cid {
-                Some(_) => AddressValidation::ByRetry,
-                None => AddressValidation::ByToken,
-            },
+            Verdict::Validated {
+                retry_src_cid: Some(_),
+                ..
+            } => AddressValidation::ByRetry,
+            Verdict::Validated {
+                retry_src_cid: None,
+                ..
+            } => AddressValidation::ByToken,
             Verdict::Unvalidated { .. } => AddressValidation::Missing,
             Verdict::Rejected { .. } => return None,
         };

@@ -1,6 +1,6 @@
 -- A text is read pair by pair.
-use Rattle.std.proofs.Common.{◌≡◌, ℕ, ◌+◌, ◌*◌, ◌%◌, ◌<◌, ◌≤◌, List, [], ◌∷◌, ◌++◌, length, get_or, drop, Some, None, Option, sym, refl, ap, ◌∙◌, append-nil, arith}
-use Rattle.std.proofs.lemmas.List.{append_assoc, drop_more, drop_all}
+use Rattle.std.proofs.Common.{◌≡◌, ℕ, ◌<◌, ◌≤◌, List, [], ◌∷◌, ◌++◌, length, drop, slice_index, Some, None, Option, sym, refl, ap, ◌∙◌, append-nil, arith}
+use Rattle.std.proofs.lemmas.List.{append_assoc}
 use Rattle.hex_text.specs.Digits.{digit_of, paired, followed, unhex}
 
 -- what was read before what is left
@@ -8,46 +8,33 @@ abbrev pub before : List ℕ → Option (List ℕ) → Option (List ℕ)
 before xs None = None
 before xs (Some ys) = Some (xs ++ ys)
 
-pub odd_none : (t : List ℕ) → length t % 2 ≡ 1 → unhex t ≡ None
-unfolding unhex
-odd_none [] h = absurd (omega arith)
-odd_none (a ∷ []) h = refl
-odd_none (a ∷ b ∷ rest) h = ap (followed (paired (digit_of a) (digit_of b))) (odd_none rest (omega arith)) ∙ none (paired (digit_of a) (digit_of b))
-  where
-    none : (o : Option ℕ) → followed o None ≡ None
-    none None = refl
-    none (Some x) = refl
-
 -- the next pair
-pair_at : (t : List ℕ) (i : ℕ) → 2 * i + 1 < length t
-    → unhex (drop (2 * i) t) ≡ followed (paired (digit_of (get_or t (2 * i) 0)) (digit_of (get_or t (2 * i + 1) 0))) (unhex (drop (2 * (i + 1)) t))
+next_pair : (t : List ℕ) → 2 ≤ length t → unhex t ≡ followed (paired (digit_of (slice_index t 0)) (digit_of (slice_index t 1))) (unhex (drop 2 t))
 unfolding unhex
-pair_at t i h =
-    let e : 2 * i + 1 + 1 ≡ 2 * (i + 1) = omega arith in
-    ap unhex (drop_more t (2 * i) 0 (omega arith) ∙ ap (λ (r : List ℕ). get_or t (2 * i) 0 ∷ r) (drop_more t (2 * i + 1) 0 h ∙ ap (λ (k : ℕ). get_or t (2 * i + 1) 0 ∷ drop k t) e))
+next_pair [] h = absurd (omega arith)
+next_pair (a ∷ []) h = absurd (omega arith)
+next_pair (a ∷ b ∷ rest) h = refl
 
 added : (xs : List ℕ) (b : ℕ) (o : Option (List ℕ)) → before xs (followed (Some b) o) ≡ before (xs ++ (b ∷ [])) o
 added xs b None = refl
 added xs b (Some ys) = ap Some (sym (append_assoc xs (b ∷ []) ys))
 
-pub read_more : (t xs : List ℕ) (i b : ℕ) → 2 * i + 1 < length t → paired (digit_of (get_or t (2 * i) 0)) (digit_of (get_or t (2 * i + 1) 0)) ≡ Some b
-    → before xs (unhex (drop (2 * i) t)) ≡ unhex t → before (xs ++ (b ∷ [])) (unhex (drop (2 * (i + 1)) t)) ≡ unhex t
-read_more t xs i b h p inv =
-    sym (added xs b (unhex (drop (2 * (i + 1)) t)))
-    ∙ ap (λ (o : Option ℕ). before xs (followed o (unhex (drop (2 * (i + 1)) t)))) (sym p) ∙ ap (before xs) (sym (pair_at t i h)) ∙ inv
+module _ (t xs left : List ℕ) (inv : before xs (unhex left) ≡ unhex t) where
+  pub read_more : (b : ℕ) → 2 ≤ length left → paired (digit_of (slice_index left 0)) (digit_of (slice_index left 1)) ≡ Some b → before (xs ++ (b ∷ [])) (unhex (drop 2 left)) ≡ unhex t
+  read_more b h p =
+      sym (added xs b (unhex (drop 2 left))) ∙ ap (λ (o : Option ℕ). before xs (followed o (unhex (drop 2 left)))) (sym p) ∙ ap (before xs) (sym (next_pair left h)) ∙ inv
 
-pub read_none : (t xs : List ℕ) (i : ℕ) → 2 * i + 1 < length t → paired (digit_of (get_or t (2 * i) 0)) (digit_of (get_or t (2 * i + 1) 0)) ≡ None
-    → before xs (unhex (drop (2 * i) t)) ≡ unhex t → None ≡ unhex t
-read_none t xs i h p inv =
-    ap (λ (o : Option ℕ). before xs (followed o (unhex (drop (2 * (i + 1)) t)))) (sym p) ∙ ap (before xs) (sym (pair_at t i h)) ∙ inv
+  pub read_none : 2 ≤ length left → paired (digit_of (slice_index left 0)) (digit_of (slice_index left 1)) ≡ None → None ≡ unhex t
+  read_none h p = ap (λ (o : Option ℕ). before xs (followed o (unhex (drop 2 left)))) (sym p) ∙ ap (before xs) (sym (next_pair left h)) ∙ inv
 
-pub read_all : (t xs : List ℕ) (i : ℕ) → length t ≤ 2 * i → before xs (unhex (drop (2 * i) t)) ≡ unhex t → Some xs ≡ unhex t
-unfolding unhex
-read_all t xs i h inv = ap Some (sym (append-nil xs)) ∙ ap (λ (r : List ℕ). before xs (unhex r)) (sym (drop_all (2 * i) t h)) ∙ inv
+module _ (t xs : List ℕ) where
+  pub read_all : (left : List ℕ) → length left ≡ 0 → before xs (unhex left) ≡ unhex t → Some xs ≡ unhex t
+  unfolding unhex
+  read_all [] h inv = ap Some (sym (append-nil xs)) ∙ inv
+  read_all (a ∷ left) h inv = absurd (omega arith)
 
-pub read_start : (t : List ℕ) → before [] (unhex (drop (2 * 0) t)) ≡ unhex t
-read_start t = same (unhex t)
-  where
-    same : (o : Option (List ℕ)) → before [] o ≡ o
-    same None = refl
-    same (Some ys) = refl
+  pub one_left : (left : List ℕ) → length left < 2 → 0 < length left → before xs (unhex left) ≡ unhex t → None ≡ unhex t
+  unfolding unhex
+  one_left [] h k inv = absurd (omega arith)
+  one_left (a ∷ []) h k inv = inv
+  one_left (a ∷ b ∷ left) h k inv = absurd (omega arith)

@@ -1,8 +1,8 @@
 -- Bytes written as pairs of hex digits, 0 to 9 and a to f, the high digit first.
-use Rattle.std.specs.Prelude.{ℕ, ◌+◌, ◌-◌, ◌*◌, cond, ◌&&◌, List, [], ◌∷◌, Some, None, vec_items, Option, Vec, nat_le}
+use Rattle.std.specs.Prelude.{ℕ, ◌+◌, ◌-◌, ◌*◌, ◌&&◌, List, [], ◌∷◌, Some, None, vec_items, Option, Vec, nat_le, if◌then◌else◌}
 
 abbrev pub digit_of : ℕ → Option ℕ
-digit_of c = cond (nat_le 48 c && nat_le c 57) (Some (c - 48)) (cond (nat_le 97 c && nat_le c 102) (Some (c - 87)) None)
+digit_of c = if nat_le 48 c && nat_le c 57 then Some (c - 48) else if nat_le 97 c && nat_le c 102 then Some (c - 87) else None
 
 abbrev pub paired : Option ℕ → Option ℕ → Option ℕ
 paired None low = None

@@ -1,5 +1,5 @@
 #![tactic(auto)]
-// Bytes in hex, both ways.
+// Bytes in hex, both ways. Only small letters are digits: the toolchain's own library takes capitals too.
 ghost use Rattle.std.specs.Prelude.{◌≡◌, IfOk};
 ghost use Rattle.hex_text.specs.Digits.{digit_of, paired, unhex, read};
 
@@ -32,25 +32,24 @@ fn digit(c: u8) -> Option<u8>
 fn pair(high: u8, low: u8) -> Option<u8>
     ensures { result ≡ paired (digit_of high) (digit_of low) }
 {
-    match (digit(high), digit(low)) {
-        (Some(h), Some(l)) => Some(16 * h + l),
-        _ => None,
-    }
+    Some(16 * digit(high)? + digit(low)?)
 }
 
 // The bytes that a text writes in hex, or `None` where it is not such a text.
 pub fn read_hex(heap: Global, text: &[u8]) -> Result<Option<Vec<u8>>, AllocError>
     ensures { IfOk result (λ o. read o ≡ unhex text.now) }
 {
-    if text.len() % 2 != 0 {
-        return Ok(None);
-    }
     let mut bytes = Vec::new(heap);
-    for i in 0..text.len() / 2 {
-        match pair(text[2 * i], text[2 * i + 1]) {
-            Some(byte) => bytes.push(byte)?,
-            None => return Ok(None),
-        }
+    let mut left = text;
+    while let [high, low, rest @ ..] = left {
+        let Some(byte) = pair(*high, *low) else {
+            return Ok(None);
+        };
+        bytes.push(byte)?;
+        left = rest;
     }
-    Ok(Some(bytes))
+    if left.is_empty() {
+        return Ok(Some(bytes));
+    }
+    Ok(None)
 }

@@ -4,10 +4,11 @@ mod periods;
 mod show;
 
 use answers::Refusal;
-use anyhow::anyhow;
+use anyhow::Context;
+use hex_text::Hex;
 use periods::run_log;
 use sealing::{BenchScheme, MAX_TOKEN, Nonce, SealingScheme, WORKING, decode_token, encode_token};
-use show::{Hex, Said};
+use show::Said;
 use std::alloc::Global;
 use std::io;
 use wire::{ConnectionId, IpAddr, SocketAddr, TokenPayload};
@@ -64,9 +65,9 @@ fn run_tokens(rt: &impl Print) -> anyhow::Result<()> {
         issued: 1000,
     };
     there_and_back(rt, &scheme, &validation, Nonce::new(7, 9))?;
-    let Ok(id) = ConnectionId::new(&[0xaa, 0xbb]) else {
-        return Err(anyhow!("a connection id of two bytes was refused"));
-    };
+    let id = ConnectionId::new(&[0xaa, 0xbb])
+        .ok()
+        .context("a connection id of two bytes was refused")?;
     let retry = TokenPayload::Retry {
         address: SocketAddr {
             ip: cab,
@@ -76,9 +77,9 @@ fn run_tokens(rt: &impl Print) -> anyhow::Result<()> {
         issued: 1,
     };
     there_and_back(rt, &scheme, &retry, Nonce::new(8, 9))?;
-    let Ok(id) = ConnectionId::new(b"twenty bytes of name") else {
-        return Err(anyhow!("a connection id of twenty bytes was refused"));
-    };
+    let id = ConnectionId::new(b"twenty bytes of name")
+        .ok()
+        .context("a connection id of twenty bytes was refused")?;
     let address = SocketAddr {
         ip: IpAddr::V6(*b"\x20\x01\x0d\xb8\0\0\0\0\0\0\0\0\0\0\0\x07"),
         port: 4433,

@@ -1,4 +1,4 @@
-use anyhow::anyhow;
+use anyhow::Context;
 use filter::{ExactSet, Places};
 use std::alloc::Global;
 use token_log::{Lifetime, TokenLog, TwoGenerationLog};
@@ -21,18 +21,17 @@ const TOKENS: [(u64, u32); 8] = [
 ];
 
 fn set(heap: Global) -> anyhow::Result<ExactSet> {
-    match ExactSet::new(SURE, Places::allocate(heap, SURE)?) {
-        Ok(set) => Ok(set),
-        Err(_) => Err(anyhow!("a set was refused")),
-    }
+    ExactSet::new(SURE, Places::allocate(heap, SURE)?)
+        .ok()
+        .context("a set was refused")
 }
 
 // Runs a log over four periods, and prints what it answers to each token.
 pub(crate) fn run_log(rt: &impl Print, heap: Global) -> anyhow::Result<()> {
     let mut log = TwoGenerationLog::new(set(heap)?, set(heap)?);
-    let Ok(lifetime) = Lifetime::from_nanos(TEN_SECONDS) else {
-        return Err(anyhow!("a lifetime of ten seconds was refused"));
-    };
+    let lifetime = Lifetime::from_nanos(TEN_SECONDS)
+        .ok()
+        .context("a lifetime of ten seconds was refused")?;
     println!(rt; "log of two sets of {SURE}, lifetime 10 s")?;
     for (low, issued) in TOKENS {
         match log.check_and_insert(low, issued, lifetime) {

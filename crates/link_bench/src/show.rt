@@ -1,18 +1,6 @@
+use hex_text::Hex;
 use std::fmt;
 use wire::{IpAddr, TokenPayload};
-
-// Bytes in hex.
-#[derive(Drop)]
-pub struct Hex<'a>(pub &'a [u8]);
-
-impl fmt::Display for Hex<'_> {
-    fn fmt<W: fmt::Write>(&self, f: &mut fmt::Formatter<W>) -> fmt::Result {
-        for byte in self.0 {
-            write!(f, "{byte:02x}")?;
-        }
-        Ok(())
-    }
-}
 
 // An IP: a dotted quad, or 32 hex digits.
 #[derive(Drop)]

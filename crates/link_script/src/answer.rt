@@ -1,39 +1,48 @@
-// What each call answers, as a line.
+// What a call answers, as a line shows it.
 use answers::Refusal;
 use gate::Verdict;
 use hex_text::Hex;
-use std::alloc::{AllocError, Global};
+use std::{fmt, io};
 
-pub(crate) fn refused(heap: Global, refusal: Refusal) -> Result<String, AllocError> {
-    format!(in heap; "refused {}", refusal.number())
-}
+// Bytes in hex, `-` for none.
+#[derive(Drop)]
+pub(crate) struct Bytes<'a>(pub(crate) &'a [u8]);
 
-// Bytes after a word; `-` for none.
-pub(crate) fn bytes(heap: Global, word: &str, bytes: &[u8]) -> Result<String, AllocError> {
-    if bytes.is_empty() {
-        return format!(in heap; "{word} -");
+impl fmt::Display for Bytes<'_> {
+    fn fmt<W: fmt::Write>(&self, f: &mut fmt::Formatter<W>) -> fmt::Result {
+        if self.0.is_empty() {
+            return f.write_str("-");
+        }
+        write!(f, "{}", Hex(self.0))
     }
-    format!(in heap; "{word} {}", Hex(bytes))
 }
 
-pub(crate) fn verdict(heap: Global, verdict: &Verdict) -> Result<String, AllocError> {
+pub(crate) fn print_refusal(rt: &impl Print, refusal: Refusal) -> io::Result<()> {
+    println!(rt; "refused {}", refusal.number())
+}
+
+pub(crate) fn print_verdict(rt: &impl Print, verdict: &Verdict) -> io::Result<()> {
     let number = verdict.number();
     match verdict {
         Verdict::Validated {
-            retry_src_cid,
+            retry_src_cid: Some(source),
             orig_dst_cid,
-        } => {
-            let original = bytes(heap, "original", orig_dst_cid.as_slice())?;
-            let source = match retry_src_cid {
-                Some(id) => bytes(heap, "source", id.as_slice())?,
-                None => String::from_str(heap, "source none")?,
-            };
-            format!(in heap; "validated {number} {source} {original}")
-        }
-        Verdict::Unvalidated { orig_dst_cid, .. } => {
-            let original = bytes(heap, "original", orig_dst_cid.as_slice())?;
-            format!(in heap; "unvalidated {number} source none {original}")
-        }
-        Verdict::Rejected { .. } => format!(in heap; "rejected {number}"),
+        } => println!(rt;
+            "validated {number} source {} original {}",
+            Bytes(source.as_slice()),
+            Bytes(orig_dst_cid.as_slice())
+        ),
+        Verdict::Validated {
+            retry_src_cid: None,
+            orig_dst_cid,
+        } => println!(rt;
+            "validated {number} source none original {}",
+            Bytes(orig_dst_cid.as_slice())
+        ),
+        Verdict::Unvalidated { orig_dst_cid, .. } => println!(rt;
+            "unvalidated {number} source none original {}",
+            Bytes(orig_dst_cid.as_slice())
+        ),
+        Verdict::Rejected { .. } => println!(rt; "rejected {number}"),
     }
 }

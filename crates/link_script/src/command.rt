@@ -5,31 +5,32 @@ use std::alloc::Global;
 use token_store::MAX_STORED;
 use wire::{IpAddr, SocketAddr};
 
-// A call of the gate.
+#[derive(Clone, Copy)]
+pub(crate) struct Issue {
+    pub(crate) low: u64,
+    pub(crate) high: u64,
+    pub(crate) ip: IpAddr,
+    pub(crate) clock: u64,
+    pub(crate) room: usize,
+    pub(crate) working: usize,
+}
+
 #[derive(Drop)]
-pub(crate) enum GateCall {
-    Issue {
-        low: u64,
-        high: u64,
-        ip: IpAddr,
-        clock: u64,
-        room: usize,
-        working: usize,
-    },
-    Arrive {
-        token: Vec<u8>,
-        destination: Vec<u8>,
-        address: SocketAddr,
-        clock: u64,
-        working: usize,
-    },
-    Retry {
-        low: u64,
-        high: u64,
-        clock: u64,
-        room: usize,
-        working: usize,
-    },
+pub(crate) struct Arrive {
+    pub(crate) token: Vec<u8>,
+    pub(crate) destination: Vec<u8>,
+    pub(crate) address: SocketAddr,
+    pub(crate) clock: u64,
+    pub(crate) working: usize,
+}
+
+#[derive(Clone, Copy)]
+pub(crate) struct Retry {
+    pub(crate) low: u64,
+    pub(crate) high: u64,
+    pub(crate) clock: u64,
+    pub(crate) room: usize,
+    pub(crate) working: usize,
 }
 
 // How a slip ends without a token.
@@ -40,47 +41,51 @@ pub(crate) enum End {
     Ignore,
 }
 
-// A call of the store.
 #[derive(Drop)]
-pub(crate) enum StoreCall<'a> {
-    Insert { name: &'a str, token: Vec<u8> },
-    Take { name: &'a str, room: usize },
+pub(crate) struct Insert<'a> {
+    pub(crate) name: &'a str,
+    pub(crate) token: Vec<u8>,
+}
+
+#[derive(Clone, Copy)]
+pub(crate) struct Take<'a> {
+    pub(crate) name: &'a str,
+    pub(crate) room: usize,
 }
 
 #[derive(Drop)]
 pub(crate) enum Command<'a> {
-    Gate(GateCall),
-    Slip(End),
-    Store(StoreCall<'a>),
+    Issue(Issue),
+    Arrive(Arrive),
+    Retry(Retry),
+    Spend(End),
+    Insert(Insert<'a>),
+    Take(Take<'a>),
     HashCount { budget: u32, hits: u32 },
 }
 
-fn read_issue(heap: Global, words: &mut Words<'_, '_>) -> Result<GateCall, Bad> {
-    let low = words.u64()?;
-    let high = words.u64()?;
-    let ip = words.ip(heap)?;
-    let clock = words.u64()?;
-    let room = words.length("room", MAX_TOKEN)?;
-    let working = words.length("working", WORKING)?;
-    Ok(GateCall::Issue {
-        low,
-        high,
-        ip,
-        clock,
-        room,
-        working,
+// The fields of a struct are read in the order in which it has them, which is that of the words.
+fn read_issue(heap: Global, words: &mut Words<'_, '_>) -> Result<Issue, Bad> {
+    Ok(Issue {
+        low: words.number()?,
+        high: words.number()?,
+        ip: words.ip(heap)?,
+        clock: words.number()?,
+        room: words.length("room", MAX_TOKEN)?,
+        working: words.length("working", WORKING)?,
     })
 }
 
-fn read_arrive(heap: Global, words: &mut Words<'_, '_>) -> Result<GateCall, Bad> {
+fn read_arrive(heap: Global, words: &mut Words<'_, '_>) -> Result<Arrive, Bad> {
     let token = words.bytes(heap)?;
     let destination = words.bytes(heap)?;
-    let ip = words.ip(heap)?;
-    let port = words.u16()?;
-    let clock = words.u64()?;
+    let address = SocketAddr {
+        ip: words.ip(heap)?,
+        port: words.port()?,
+    };
+    let clock = words.number()?;
     let working = words.length("working", WORKING)?;
-    let address = SocketAddr { ip, port };
-    Ok(GateCall::Arrive {
+    Ok(Arrive {
         token,
         destination,
         address,
@@ -89,49 +94,44 @@ fn read_arrive(heap: Global, words: &mut Words<'_, '_>) -> Result<GateCall, Bad>
     })
 }
 
-fn read_retry(words: &mut Words<'_, '_>) -> Result<GateCall, Bad> {
-    let low = words.u64()?;
-    let high = words.u64()?;
-    let clock = words.u64()?;
-    let room = words.length("room", MAX_TOKEN)?;
-    let working = words.length("working", WORKING)?;
-    Ok(GateCall::Retry {
-        low,
-        high,
-        clock,
-        room,
-        working,
+fn read_retry(words: &mut Words<'_, '_>) -> Result<Retry, Bad> {
+    Ok(Retry {
+        low: words.number()?,
+        high: words.number()?,
+        clock: words.number()?,
+        room: words.length("room", MAX_TOKEN)?,
+        working: words.length("working", WORKING)?,
     })
 }
 
-fn read_insert<'a>(heap: Global, words: &mut Words<'_, 'a>) -> Result<StoreCall<'a>, Bad> {
+fn read_insert<'a>(heap: Global, words: &mut Words<'_, 'a>) -> Result<Insert<'a>, Bad> {
     let name = words.name()?;
     let token = words.bytes(heap)?;
-    Ok(StoreCall::Insert { name, token })
+    Ok(Insert { name, token })
 }
 
-fn read_take<'a>(words: &mut Words<'_, 'a>) -> Result<StoreCall<'a>, Bad> {
+fn read_take<'a>(words: &mut Words<'_, 'a>) -> Result<Take<'a>, Bad> {
     let name = words.name()?;
     let room = words.length("room", MAX_STORED)?;
-    Ok(StoreCall::Take { name, room })
+    Ok(Take { name, room })
 }
 
 fn read_hash_count<'a>(words: &mut Words<'_, 'a>) -> Result<Command<'a>, Bad> {
-    let budget = words.u32()?;
-    let hits = words.u32()?;
+    let budget = words.number()?;
+    let hits = words.number()?;
     Ok(Command::HashCount { budget, hits })
 }
 
 fn read_command<'a>(heap: Global, words: &mut Words<'_, 'a>) -> Result<Command<'a>, Bad> {
     let command = match words.next()? {
-        "issue" => Command::Gate(read_issue(heap, words)?),
-        "arrive" => Command::Gate(read_arrive(heap, words)?),
-        "retry" => Command::Gate(read_retry(words)?),
-        "accept" => Command::Slip(End::Accept),
-        "refuse" => Command::Slip(End::Refuse),
-        "ignore" => Command::Slip(End::Ignore),
-        "insert" => Command::Store(read_insert(heap, words)?),
-        "take" => Command::Store(read_take(words)?),
+        "issue" => Command::Issue(read_issue(heap, words)?),
+        "arrive" => Command::Arrive(read_arrive(heap, words)?),
+        "retry" => Command::Retry(read_retry(words)?),
+        "accept" => Command::Spend(End::Accept),
+        "refuse" => Command::Spend(End::Refuse),
+        "ignore" => Command::Spend(End::Ignore),
+        "insert" => Command::Insert(read_insert(heap, words)?),
+        "take" => Command::Take(read_take(words)?),
         "k" => read_hash_count(words)?,
         _ => return Err(Bad::Line("no such command")),
     };

@@ -47,19 +47,19 @@ impl Head for LogHead {
         let head = match words.next()? {
             "none" => LogHead::None,
             "set" => LogHead::Set {
-                capacity: words.u32()?,
+                capacity: words.number()?,
             },
             "bloom" => LogHead::Bloom {
-                budget: words.u32()?,
-                k: words.u32()?,
+                budget: words.number()?,
+                k: words.number()?,
             },
             "turning" => LogHead::Turning {
-                budget: words.u32()?,
-                k: words.u32()?,
+                budget: words.number()?,
+                k: words.number()?,
             },
             "expected" => LogHead::Expected {
-                budget: words.u32()?,
-                hits: words.u32()?,
+                budget: words.number()?,
+                hits: words.number()?,
             },
             _ => return Err(Bad::Line("no such log")),
         };
@@ -79,8 +79,8 @@ impl Head for GateHead {
         if words.next()? != "gate" {
             return Err(Bad::Line("the gate comes next"));
         }
-        let retry = words.u64()?;
-        let validation = words.u64()?;
+        let retry = words.number()?;
+        let validation = words.number()?;
         words.end()?;
         Ok(GateHead { retry, validation })
     }

@@ -1,13 +1,14 @@
 #![tactic(auto)]
 // Runs a script of calls from standard input, and prints a line for each answer.
 mod answer;
-mod calls;
 mod command;
 mod head;
 mod script;
+mod session;
 mod setup;
 mod words;
 
+use script::{Script, says_something};
 use setup::run_script;
 use std::io::Read;
 
@@ -15,8 +16,13 @@ fn read_and_run(rt: &HostRuntime) -> anyhow::Result<()> {
     let heap = rt.alloc();
     let mut text = String::new(heap);
     rt.stdin().read_to_string(&mut text)?;
-    let lines: Vec<&str> = text.as_str().lines().collect(heap)?;
-    run_script(rt, heap, &lines)
+    let lines: Vec<(usize, &str)> = text
+        .as_str()
+        .lines()
+        .enumerate()
+        .filter(|(_, line)| says_something(line))
+        .collect(heap)?;
+    run_script(rt, &mut Script::new(heap, &lines))
 }
 
 fn main(rt: HostRuntime) -> anyhow::Result<()> {

@@ -1,13 +1,15 @@
 // The words of a line, one after the other.
 use hex_text::read_hex;
 use std::alloc::{AllocError, Global};
+use std::fmt;
+use std::str::FromStr;
 use wire::IpAddr;
 
 // The longest buffer that a line can ask for.
 pub(crate) const MOST: usize = 4096;
 
 // Why a line is not run.
-#[derive(Clone, Copy)]
+#[derive(Clone, Copy, PartialEq, Eq, Debug)]
 pub(crate) enum Bad {
     // what is wrong with it
     Line(&'static str),
@@ -20,53 +22,55 @@ impl From<AllocError> for Bad {
     }
 }
 
+impl fmt::Display for Bad {
+    fn fmt<W: fmt::Write>(&self, f: &mut fmt::Formatter<W>) -> fmt::Result {
+        f.write_str(match self {
+            Bad::Line(what) => what,
+            Bad::Memory => "no memory",
+        })
+    }
+}
+
+// The words that are left of a line.
 #[derive(Drop)]
 pub(crate) struct Words<'w, 'a> {
-    words: &'w [&'a str],
-    at: usize,
+    left: &'w [&'a str],
 }
 
 impl<'w, 'a> Words<'w, 'a> {
     pub(crate) fn new(words: &'w [&'a str]) -> Words<'w, 'a> {
-        Words { words, at: 0 }
+        Words { left: words }
     }
 
     pub(crate) fn next(&mut self) -> Result<&'a str, Bad> {
-        match self.words.get(self.at) {
-            Some(word) => {
-                self.at = self.at.saturating_add(1);
-                Ok(*word)
-            }
-            None => Err(Bad::Line("a word is missing")),
-        }
+        let Some(word) = self.left.first().copied() else {
+            return Err(Bad::Line("a word is missing"));
+        };
+        self.left = &self.left[1..];
+        Ok(word)
     }
 
     pub(crate) fn end(&self) -> Result<(), Bad> {
-        if self.at < self.words.len() {
+        if !self.left.is_empty() {
             return Err(Bad::Line("a word too many"));
         }
         Ok(())
     }
 
-    pub(crate) fn u64(&mut self) -> Result<u64, Bad> {
-        match self.next()?.parse::<u64>() {
-            Ok(n) => Ok(n),
-            Err(_) => Err(Bad::Line("not a number")),
-        }
+    // A number that fits its type.
+    pub(crate) fn number<T: FromStr + Drop>(&mut self) -> Result<T, Bad>
+    where
+        T::Err: Drop,
+    {
+        self.next()?
+            .parse::<T>()
+            .map_err(|_| Bad::Line("not a number"))
     }
 
-    pub(crate) fn u32(&mut self) -> Result<u32, Bad> {
-        match self.next()?.parse::<u32>() {
-            Ok(n) => Ok(n),
-            Err(_) => Err(Bad::Line("not a number")),
-        }
-    }
-
-    pub(crate) fn u16(&mut self) -> Result<u16, Bad> {
-        match self.next()?.parse::<u16>() {
-            Ok(n) => Ok(n),
-            Err(_) => Err(Bad::Line("not a port")),
-        }
+    pub(crate) fn port(&mut self) -> Result<u16, Bad> {
+        self.next()?
+            .parse::<u16>()
+            .map_err(|_| Bad::Line("not a port"))
     }
 
     // Bytes in hex, `-` for none.
@@ -75,21 +79,13 @@ impl<'w, 'a> Words<'w, 'a> {
         if word == "-" {
             return Ok(Vec::new(heap));
         }
-        match read_hex(heap, word.as_bytes())? {
-            Some(bytes) => Ok(bytes),
-            None => Err(Bad::Line("not in hex")),
-        }
+        read_hex(heap, word.as_bytes())?.ok_or(Bad::Line("not in hex"))
     }
 
     // Just so many bytes.
     pub(crate) fn array<const N: usize>(&mut self, heap: Global) -> Result<[u8; N], Bad> {
         let bytes = self.bytes(heap)?;
-        if bytes.len() != N {
-            return Err(Bad::Line("another number of bytes"));
-        }
-        let mut array = [0; N];
-        array.copy_from_slice(&bytes);
-        Ok(array)
+        exact(&bytes).ok_or(Bad::Line("another number of bytes"))
     }
 
     // A name, `-` for the empty one.
@@ -101,31 +97,24 @@ impl<'w, 'a> Words<'w, 'a> {
     // A dotted quad, or 32 hex digits.
     pub(crate) fn ip(&mut self, heap: Global) -> Result<IpAddr, Bad> {
         let word = self.next()?;
-        if word.contains('.') {
-            return match quad(word) {
-                Some(octets) => Ok(IpAddr::V4(octets)),
-                None => Err(Bad::Line("not an IP")),
-            };
-        }
-        let Some(bytes) = read_hex(heap, word.as_bytes())? else {
-            return Err(Bad::Line("not an IP"));
+        let ip = if word.contains('.') {
+            quad(word).map(IpAddr::V4)
+        } else {
+            match read_hex(heap, word.as_bytes())? {
+                Some(bytes) => exact(&bytes).map(IpAddr::V6),
+                None => None,
+            }
         };
-        if bytes.len() != 16 {
-            return Err(Bad::Line("not an IP"));
-        }
-        let mut octets = [0; 16];
-        octets.copy_from_slice(&bytes);
-        Ok(IpAddr::V6(octets))
+        ip.ok_or(Bad::Line("not an IP"))
     }
 
     // The length of a buffer after its word, or the usual one where the word is not there.
     pub(crate) fn length(&mut self, word: &str, usual: usize) -> Result<usize, Bad> {
-        match self.words.get(self.at) {
-            Some(next) if *next == word => {}
+        match self.left.first().copied() {
+            Some(next) if next == word => self.left = &self.left[1..],
             _ => return Ok(usual),
         }
-        self.at = self.at.saturating_add(1);
-        let length = self.u32()? as usize;
+        let length = self.number::<u32>()? as usize;
         if length > MOST {
             return Err(Bad::Line("a buffer too long"));
         }
@@ -133,19 +122,20 @@ impl<'w, 'a> Words<'w, 'a> {
     }
 }
 
+// Just so many bytes.
+fn exact<const N: usize>(bytes: &[u8]) -> Option<[u8; N]> {
+    bytes.as_array().copied()
+}
+
 // Four numbers of a byte each, with dots between them.
 fn quad(word: &str) -> Option<[u8; 4]> {
+    let mut parts = word.split('.');
     let mut octets = [0; 4];
-    let mut count: usize = 0;
-    for part in word.split('.') {
-        if count >= 4 {
-            return None;
-        }
-        let Ok(octet) = part.parse::<u8>() else {
-            return None;
-        };
-        octets[count] = octet;
-        count += 1;
+    for octet in octets.iter_mut() {
+        *octet = parts.next()?.parse().ok()?;
     }
-    if count == 4 { Some(octets) } else { None }
+    match parts.next() {
+        Some(_) => None,
+        None => Some(octets),
+    }
 }

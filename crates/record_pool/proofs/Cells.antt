@@ -1,7 +1,7 @@
 -- A record's place among the links and among the slots.
-use Rattle.std.proofs.Common.{◌≡◌, ℕ, zero, suc, ◌+◌, ◌<◌, List, ◌∷◌, map, length, get_or, set, Some, None, Option, sym, refl, ap, ◌∙◌, ⊎_elim, arith}
+use Rattle.std.proofs.Common.{◌≡◌, ℕ, zero, suc, ◌+◌, ◌<◌, List, ◌∷◌, map, length, slice_index, slice_index_or, set, Some, None, Option, sym, refl, ap, ◌∙◌, ⊎_elim, arith}
 use lib.ListN.{length-map}
-use Rattle.std.proofs.lemmas.List.{get_or-map, map-set, set-get_or, set_past, get_or_past}
+use Rattle.std.proofs.lemmas.List.{get_or-map, map-set, set-get_or, get_or_past}
 use Rattle.record_pool.specs.declared.record.Record.{Record}
 use Rattle.record_pool.specs.Pools.{Outside, links, slots, some_at}
 
@@ -16,32 +16,21 @@ length-slots {X = X} rs = let e : length (map (λ (r : Record X). Some r.item) r
 past : (n p : ℕ) → Outside n p → 0 < p → n < p
 past n p h pos = ⊎_elim (λ z. absurd (omega arith)) (λ b. b) h
 
-pub links_none : {X : Type 0} (rs : List (Record X)) (p : ℕ) → Outside (length rs) p → 0 ≡ get_or (links rs) p 0
+pub links_none : {X : Type 0} (rs : List (Record X)) (p : ℕ) → Outside (length rs) p → 0 ≡ slice_index (links rs) p
 links_none rs zero h = refl
 links_none rs (suc p) h = let l = length-links rs in let b : length rs < suc p = past (length rs) (suc p) h (omega arith) in sym (get_or_past (links rs) (suc p) 0 (omega arith))
 
-pub slots_none : {X : Type 0} (rs : List (Record X)) (p : ℕ) → Outside (length rs) p → None ≡ get_or (slots rs) p None
-slots_none rs zero h = refl
-slots_none rs (suc p) h = let l = length-slots rs in let b : length rs < suc p = past (length rs) (suc p) h (omega arith) in sym (get_or_past (slots rs) (suc p) None (omega arith))
-
-pub links_kept : {X : Type 0} (rs : List (Record X)) (p v : ℕ) → Outside (length rs) p → 0 < p → links rs ≡ set (links rs) p v
-links_kept rs p v h pos = let l = length-links rs in let b : length rs < p = past (length rs) p h pos in sym (set_past (links rs) p v (omega arith))
-
-pub some_none : {X : Type 0} (rs : List (Record X)) (p : ℕ) (x : X) → Outside (length rs) p → slots rs ≡ some_at (slots rs) p x
-some_none rs zero x h = refl
-some_none rs (suc p) x h = let l = length-slots rs in let b : length rs < suc p = past (length rs) (suc p) h (omega arith) in sym (set_past (slots rs) (suc p) (Some x) (omega arith))
-
 -- ---- the place p of the record at index i
 
-pub links-at : {X : Type 0} (rs : List (Record X)) (i p : ℕ) (r : Record X) → i + 1 ≡ p → i < length rs → (get_or rs i r).next ≡ get_or (links rs) p 0
+pub links-at : {X : Type 0} (rs : List (Record X)) (i p : ℕ) (r : Record X) → i + 1 ≡ p → i < length rs → (slice_index_or rs i r).next ≡ slice_index (links rs) p
 links-at {X = X} rs i p r e b =
     let s : suc i ≡ p = omega arith in
-    sym (get_or-map (λ (r : Record X). r.next) rs i r 0 b) ∙ ap (λ (k : ℕ). get_or (links rs) k 0) s
+    sym (get_or-map (λ (r : Record X). r.next) rs i r 0 b) ∙ ap (λ (k : ℕ). slice_index (links rs) k) s
 
-pub slots_at : {X : Type 0} (rs : List (Record X)) (i p : ℕ) (r : Record X) → i + 1 ≡ p → i < length rs → Some (get_or rs i r).item ≡ get_or (slots rs) p None
+pub slots_at : {X : Type 0} (rs : List (Record X)) (i p : ℕ) (r : Record X) → i + 1 ≡ p → i < length rs → Some (slice_index_or rs i r).item ≡ slice_index_or (slots rs) p None
 slots_at {X = X} rs i p r e b =
     let s : suc i ≡ p = omega arith in
-    sym (get_or-map (λ (r : Record X). Some r.item) rs i r None b) ∙ ap (λ (k : ℕ). get_or (slots rs) k None) s
+    sym (get_or-map (λ (r : Record X). Some r.item) rs i r None b) ∙ ap (λ (k : ℕ). slice_index_or (slots rs) k None) s
 
 pub links-set : {X : Type 0} (rs : List (Record X)) (i p : ℕ) (r : Record X) → i + 1 ≡ p → links (set rs i r) ≡ set (links rs) p r.next
 links-set {X = X} rs i p r e =
@@ -62,11 +51,11 @@ slots_put rs i p r e = slots_set rs i p r e ∙ some_at_lem (slots rs) p r.item 
 
 -- a write of what was there
 pub links_same : {X : Type 0} (rs : List (Record X)) (i p : ℕ) (r : Record X) (x : X) → i + 1 ≡ p → i < length rs
-    → links (set rs i (record { next = (get_or rs i r).next; item = x })) ≡ links rs
+    → links (set rs i (record { next = (slice_index_or rs i r).next; item = x })) ≡ links rs
 links_same rs i p r x e b =
     links-set rs i p _ e ∙ ap (λ (v : ℕ). set (links rs) p v) (links-at rs i p r e b) ∙ set-get_or (links rs) p 0
 
 pub slots_same : {X : Type 0} (rs : List (Record X)) (i p : ℕ) (r : Record X) (n : ℕ) → i + 1 ≡ p → i < length rs
-    → slots (set rs i (record { next = n; item = (get_or rs i r).item })) ≡ slots rs
+    → slots (set rs i (record { next = n; item = (slice_index_or rs i r).item })) ≡ slots rs
 slots_same {X = X} rs i p r n e b =
     slots_set rs i p _ e ∙ ap (λ (v : Option X). set (slots rs) p v) (slots_at rs i p r e b) ∙ set-get_or (slots rs) p None

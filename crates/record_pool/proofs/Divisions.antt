@@ -1,5 +1,5 @@
 -- What follows of a pool that is divided into chains.
-use Rattle.std.proofs.Common.{◌≡◌, ℕ, zero, suc, ◌+◌, ◌<◌, ◌≤◌, ◌⊎◌, List, [], ◌∷◌, ◌++◌, map, length, get_or, Some, sym, refl, ap, ◌∙◌, subst, inl, inr, ⊎_elim, arith}
+use Rattle.std.proofs.Common.{◌≡◌, ℕ, zero, suc, ◌+◌, ◌<◌, ◌≤◌, ◌⊎◌, List, [], ◌∷◌, ◌++◌, map, length, slice_index, slice_index_or, Some, sym, refl, ap, ◌∙◌, subst, inl, inr, ⊎_elim, arith}
 use Rattle.std.specs.List.{flat_map}
 use Rattle.std.proofs.lemmas.Bool.{cases_eq}
 use Rattle.record_pool.specs.declared.chain.Chain.{Chain}
@@ -47,7 +47,7 @@ once_in (x ∷ xs) p t = ⊎_elim (λ e. once_first x xs p e t) (λ ne. once_lat
 abbrev all : List (List ℕ) → List ℕ
 all pss = flat_map (λ (xs : List ℕ). xs) pss
 
-met_in : (pss : List (List ℕ)) (i k p : ℕ) → nth (get_or pss i []) k ≡ Some p → 1 ≤ times p (all pss)
+met_in : (pss : List (List ℕ)) (i k p : ℕ) → nth (slice_index_or pss i []) k ≡ Some p → 1 ≤ times p (all pss)
 met_in [] i k p e = absurd (no_such p e)
 met_in (ps ∷ pss) zero k p e = let m : 1 ≤ times p ps = met_nth ps k p e in let t : times p (ps ++ all pss) ≡ times p ps + times p (all pss) = times-++ p ps (all pss) in omega arith
 met_in (ps ∷ pss) (suc i) k p e = let m : 1 ≤ times p (all pss) = met_in pss i k p e in let t : times p (ps ++ all pss) ≡ times p ps + times p (all pss) = times-++ p ps (all pss) in omega arith
@@ -55,14 +55,14 @@ met_in (ps ∷ pss) (suc i) k p e = let m : 1 ≤ times p (all pss) = met_in pss
 in_first : (ps : List ℕ) (pss : List (List ℕ)) (p : ℕ) → times p (all pss) ≡ 0 → Once ps p → InOne (ps ∷ pss) p
 in_first ps pss p z o = record { chain = 0; position = o.position; stands = o.stands; alone = alone }
   where
-    alone : (i k : ℕ) → nth (get_or (ps ∷ pss) i []) k ≡ Some p → (i ≡ 0) × (k ≡ o.position)
+    alone : (i k : ℕ) → nth (slice_index_or (ps ∷ pss) i []) k ≡ Some p → (i ≡ 0) × (k ≡ o.position)
     alone zero k h = (refl, o.alone k h)
     alone (suc i) k h = absurd (let m : 1 ≤ times p (all pss) = met_in pss i k p h in omega arith)
 
 in_later : (ps : List ℕ) (pss : List (List ℕ)) (p : ℕ) → times p ps ≡ 0 → InOne pss p → InOne (ps ∷ pss) p
 in_later ps pss p z o = record { chain = suc o.chain; position = o.position; stands = o.stands; alone = alone }
   where
-    alone : (i k : ℕ) → nth (get_or (ps ∷ pss) i []) k ≡ Some p → (i ≡ suc o.chain) × (k ≡ o.position)
+    alone : (i k : ℕ) → nth (slice_index_or (ps ∷ pss) i []) k ≡ Some p → (i ≡ suc o.chain) × (k ≡ o.position)
     alone zero k h = absurd (not_here ps p k z h)
     alone (suc i) k h = let a : (i ≡ o.chain) × (k ≡ o.position) = o.alone i k h in (ap suc a.0, a.1)
 
@@ -98,10 +98,10 @@ chain_end n nx chains front back c sh e =
     (bring n nx front c back (subst (λ (cs : List Chain). Shared n nx cs) e sh)).ended.0
 
 pub last_link : (n : ℕ) (nx : List ℕ) (chains front back : List Chain) (c : Chain) (k : ℕ) → Shared n nx chains → chains ≡ front ++ c ∷ back → k + 1 ≡ c.count
-    → get_or nx (get_or (along nx c) k 0) 0 ≡ 0
+    → slice_index nx (slice_index (along nx c) k) ≡ 0
 last_link n nx chains front back c k sh e ec =
     let s : suc k ≡ c.count = omega arith in
-    ap (λ (p : ℕ). get_or nx p 0) (get_d_walk c.count k nx c.first (omega arith)) ∙ sym (follow_more k nx c.first) ∙ ap (λ (m : ℕ). follow m nx c.first) s
+    ap (λ (p : ℕ). slice_index nx p) (get_d_walk c.count k nx c.first (omega arith)) ∙ sym (follow_more k nx c.first) ∙ ap (λ (m : ℕ). follow m nx c.first) s
     ∙ chain_end n nx chains front back c sh e
 
 -- ---- the order of the chains

@@ -1,5 +1,5 @@
 -- Chains that share out the places: what follows from it, and how it lasts.
-use Rattle.std.proofs.Common.{◌≡◌, ℕ, zero, suc, ◌+◌, ◌-◌, ◌<◌, ◌≤◌, ◌⊎◌, List, [], ◌∷◌, ◌++◌, map, length, get_or, take, drop, set, sym, refl, ap, ◌∙◌, subst, inl, inr, ⊎_elim, arith, length-append, length-set, get_or-set_other, get_or-set_same}
+use Rattle.std.proofs.Common.{◌≡◌, ℕ, zero, suc, ◌+◌, ◌-◌, ◌<◌, ◌≤◌, ◌⊎◌, List, [], ◌∷◌, ◌++◌, map, length, slice_index, take, drop, set, sym, refl, ap, ◌∙◌, subst, inl, inr, ⊎_elim, arith, length-append, length-set, get_or-set_other, get_or-set_same}
 use Rattle.std.specs.List.{flat_map}
 use Rattle.std.proofs.lemmas.Bool.{cases_eq}
 use Rattle.std.proofs.lemmas.List.{append_assoc, take-append-drop, drop_more, take_more, drop_all, append-nil}
@@ -9,27 +9,27 @@ use Rattle.record_pool.proofs.Runs.{hit_same, hit_other, times-++, follow_more, 
 
 -- ---- lists
 
-pub split_at : (k : ℕ) (xs : List ℕ) → k < length xs → xs ≡ take k xs ++ get_or xs k 0 ∷ drop (k + 1) xs
+pub split_at : (k : ℕ) (xs : List ℕ) → k < length xs → xs ≡ take k xs ++ slice_index xs k ∷ drop (k + 1) xs
 split_at k xs h = sym (take-append-drop k xs) ∙ ap (λ (ys : List ℕ). take k xs ++ ys) (drop_more xs k 0 h)
 
-pub times-without : (p k : ℕ) (xs : List ℕ) → k < length xs → times p (without k xs) + hit p (get_or xs k 0) ≡ times p xs
+pub times-without : (p k : ℕ) (xs : List ℕ) → k < length xs → times p (without k xs) + hit p (slice_index xs k) ≡ times p xs
 times-without p k xs h =
-    let e : times p xs ≡ times p (take k xs ++ get_or xs k 0 ∷ drop (k + 1) xs) = ap (times p) (split_at k xs h) in
-    let a : times p (take k xs ++ get_or xs k 0 ∷ drop (k + 1) xs) ≡ times p (take k xs) + times p (get_or xs k 0 ∷ drop (k + 1) xs) = times-++ p (take k xs) (get_or xs k 0 ∷ drop (k + 1) xs) in
+    let e : times p xs ≡ times p (take k xs ++ slice_index xs k ∷ drop (k + 1) xs) = ap (times p) (split_at k xs h) in
+    let a : times p (take k xs ++ slice_index xs k ∷ drop (k + 1) xs) ≡ times p (take k xs) + times p (slice_index xs k ∷ drop (k + 1) xs) = times-++ p (take k xs) (slice_index xs k ∷ drop (k + 1) xs) in
     let b : times p (take k xs ++ drop (k + 1) xs) ≡ times p (take k xs) + times p (drop (k + 1) xs) = times-++ p (take k xs) (drop (k + 1) xs) in
     omega arith
 
 pub length_without : (k : ℕ) (xs : List ℕ) → k < length xs → length (without k xs) + 1 ≡ length xs
 length_without k xs h =
-    let e : length xs ≡ length (take k xs ++ get_or xs k 0 ∷ drop (k + 1) xs) = ap length (split_at k xs h) in
-    let a : length (take k xs ++ get_or xs k 0 ∷ drop (k + 1) xs) ≡ length (take k xs) + length (get_or xs k 0 ∷ drop (k + 1) xs) = length-append (take k xs) (get_or xs k 0 ∷ drop (k + 1) xs) in
+    let e : length xs ≡ length (take k xs ++ slice_index xs k ∷ drop (k + 1) xs) = ap length (split_at k xs h) in
+    let a : length (take k xs ++ slice_index xs k ∷ drop (k + 1) xs) ≡ length (take k xs) + length (slice_index xs k ∷ drop (k + 1) xs) = length-append (take k xs) (slice_index xs k ∷ drop (k + 1) xs) in
     let b : length (take k xs ++ drop (k + 1) xs) ≡ length (take k xs) + length (drop (k + 1) xs) = length-append (take k xs) (drop (k + 1) xs) in
     omega arith
 
-pub met_at : (xs : List ℕ) (k : ℕ) → k < length xs → 1 ≤ times (get_or xs k 0) xs
+pub met_at : (xs : List ℕ) (k : ℕ) → k < length xs → 1 ≤ times (slice_index xs k) xs
 met_at [] k h = absurd (omega arith)
 met_at (x ∷ xs) zero h = let e : hit x x ≡ 1 = hit_same x in omega arith
-met_at (x ∷ xs) (suc k) h = let e : 1 ≤ times (get_or xs k 0) xs = met_at xs k (omega arith) in omega arith
+met_at (x ∷ xs) (suc k) h = let e : 1 ≤ times (slice_index xs k) xs = met_at xs k (omega arith) in omega arith
 
 pub joined_map : (nx : List ℕ) (cs : List Chain) → flat_map (along nx) cs ≡ flat_map (λ (xs : List ℕ). xs) (map (along nx) cs)
 joined_map nx [] = refl
@@ -97,7 +97,7 @@ frame nx (c ∷ cs) j v z e =
 -- a chain parted in two, over its runs
 parted : (n : ℕ) (nx nx' : List ℕ) (c : Chain) (k : ℕ) (rest one : Chain) (others : List Chain) → k < c.count → Shared n nx (c ∷ others)
     → Runs nx' rest.first (without k (along nx c)) → rest.count + 1 ≡ c.count
-    → Runs nx' one.first (get_or (along nx c) k 0 ∷ []) → one.count ≡ 1
+    → Runs nx' one.first (slice_index (along nx c) k ∷ []) → one.count ≡ 1
     → map (along nx') others ≡ map (along nx) others → Ended nx' others
     → Detached n nx nx' c k rest one others
 parted n nx nx' c k rest one others lt sh rr rc ro oc fr en =
@@ -107,22 +107,22 @@ parted n nx nx' c k rest one others lt sh rr rc ro oc fr en =
     let lw : length (without k (along nx c)) + 1 ≡ length (along nx c) = length_without k (along nx c) lt' in
     let le : length (without k (along nx c)) ≡ rest.count = omega arith in
     let er : along nx' rest ≡ without k (along nx c) = walk_of nx' rest.first (without k (along nx c)) rest.count rr le in
-    let eo : along nx' one ≡ get_or (along nx c) k 0 ∷ [] = walk_of nx' one.first (get_or (along nx c) k 0 ∷ []) one.count ro (sym oc) in
+    let eo : along nx' one ≡ slice_index (along nx c) k ∷ [] = walk_of nx' one.first (slice_index (along nx c) k ∷ []) one.count ro (sym oc) in
     let ej : flat_map (along nx') others ≡ flat_map (along nx) others = joined_kept nx nx' others fr in
-    let all : flat_map (along nx') (rest ∷ one ∷ others) ≡ without k (along nx c) ++ (get_or (along nx c) k 0 ∷ flat_map (along nx) others)
+    let all : flat_map (along nx') (rest ∷ one ∷ others) ≡ without k (along nx c) ++ (slice_index (along nx c) k ∷ flat_map (along nx) others)
     = ap (λ (ys : List ℕ). ys ++ (along nx' one ++ flat_map (along nx') others)) er
     ∙ ap (λ (ys : List ℕ). without k (along nx c) ++ (ys ++ flat_map (along nx') others)) eo
-    ∙ ap (λ (ys : List ℕ). without k (along nx c) ++ (get_or (along nx c) k 0 ∷ ys)) ej in
+    ∙ ap (λ (ys : List ℕ). without k (along nx c) ++ (slice_index (along nx c) k ∷ ys)) ej in
     record {
       shared = reshared n nx nx' (c ∷ others) (rest ∷ one ∷ others) sh
-          (λ p. let a : times p (without k (along nx c) ++ (get_or (along nx c) k 0 ∷ flat_map (along nx) others)) ≡ times p (without k (along nx c)) + (hit p (get_or (along nx c) k 0) + times p (flat_map (along nx) others)) = times-++ p (without k (along nx c)) (get_or (along nx c) k 0 ∷ flat_map (along nx) others) in
+          (λ p. let a : times p (without k (along nx c) ++ (slice_index (along nx c) k ∷ flat_map (along nx) others)) ≡ times p (without k (along nx c)) + (hit p (slice_index (along nx c) k) + times p (flat_map (along nx) others)) = times-++ p (without k (along nx c)) (slice_index (along nx c) k ∷ flat_map (along nx) others) in
           let b : times p (along nx c ++ flat_map (along nx) others) ≡ times p (along nx c) + times p (flat_map (along nx) others) = times-++ p (along nx c) (flat_map (along nx) others) in
-          let w : times p (without k (along nx c)) + hit p (get_or (along nx c) k 0) ≡ times p (along nx c) = times-without p k (along nx c) lt' in
+          let w : times p (without k (along nx c)) + hit p (slice_index (along nx c) k) ≡ times p (along nx c) = times-without p k (along nx c) lt' in
           ap (times p) all ∙ omega arith)
-          (let a : length (without k (along nx c) ++ (get_or (along nx c) k 0 ∷ flat_map (along nx) others)) ≡ length (without k (along nx c)) + length (get_or (along nx c) k 0 ∷ flat_map (along nx) others) = length-append (without k (along nx c)) (get_or (along nx c) k 0 ∷ flat_map (along nx) others) in
+          (let a : length (without k (along nx c) ++ (slice_index (along nx c) k ∷ flat_map (along nx) others)) ≡ length (without k (along nx c)) + length (slice_index (along nx c) k ∷ flat_map (along nx) others) = length-append (without k (along nx c)) (slice_index (along nx c) k ∷ flat_map (along nx) others) in
           let b : length (along nx c ++ flat_map (along nx) others) ≡ length (along nx c) + length (flat_map (along nx) others) = length-append (along nx c) (flat_map (along nx) others) in
           ap length all ∙ omega arith)
-          (end_of nx' rest.first (without k (along nx c)) rest.count rr le, (end_of nx' one.first (get_or (along nx c) k 0 ∷ []) one.count ro (sym oc), en));
+          (end_of nx' rest.first (without k (along nx c)) rest.count rr le, (end_of nx' one.first (slice_index (along nx c) k ∷ []) one.count ro (sym oc), en));
       rests = er;
       ones = eo;
       kept = fr;
@@ -130,14 +130,14 @@ parted n nx nx' c k rest one others lt sh rr rc ro oc fr en =
 
 -- the first place detached: it leads to the end, and the chain begins with what it led to
 pub detached_first : (n : ℕ) (nx nx' : List ℕ) (c : Chain) (k t : ℕ) (others : List Chain) → length nx ≡ n + 1 → k ≡ 0 → k < c.count → Shared n nx (c ∷ others)
-    → t ≡ get_or nx c.first 0 → (0 < c.first → nx' ≡ set nx c.first 0)
+    → t ≡ slice_index nx c.first → (0 < c.first → nx' ≡ set nx c.first 0)
     → Detached n nx nx' c k (record { first = t; count = c.count - 1 }) (record { first = c.first; count = 1 }) others
 detached_first n nx nx' c (suc k) t others long z lt sh et en = absurd (omega arith)
 detached_first n nx nx' c zero t others long z lt sh et en =
     let s : ℕ = c.first in
     let l : length (along nx c) ≡ c.count = length-walk c.count nx c.first in
     let lt' : 0 < length (along nx c) = omega arith in
-    let f : get_or (along nx c) 0 0 ≡ c.first = get_d_walk c.count 0 nx c.first lt in
+    let f : slice_index (along nx c) 0 ≡ c.first = get_d_walk c.count 0 nx c.first lt in
     let sp : along nx c ≡ c.first ∷ drop 1 (along nx c) = split_at 0 (along nx c) lt' ∙ ap (λ (x : ℕ). x ∷ drop 1 (along nx c)) f in
     let m : 1 ≤ times c.first (along nx c) = subst (λ (x : ℕ). 1 ≤ times x (along nx c)) f (met_at (along nx c) 0 lt') in
     let b : (0 < c.first) × (c.first ≤ n) = in_range n nx c others c.first sh m in
@@ -149,15 +149,15 @@ detached_first n nx nx' c zero t others long z lt sh et en =
     let fr : (map (along (set nx c.first 0)) others ≡ map (along nx) others) × Ended (set nx c.first 0) others = frame nx others c.first 0 (apart n nx c others c.first sh m) sh.ended.1 in
     subst (λ (mx : List ℕ). Detached n nx mx c 0 (record { first = t; count = c.count - 1 }) (record { first = c.first; count = 1 }) others) (sym e)
     (parted n nx (set nx c.first 0) c 0 (record { first = t; count = c.count - 1 }) (record { first = c.first; count = 1 }) others lt sh
-    (subst (λ (u : ℕ). Runs (set nx c.first 0) u (drop 1 (along nx c))) (sym et) (run_frame nx (get_or nx c.first 0) (drop 1 (along nx c)) c.first 0 z1 r.1))
+    (subst (λ (u : ℕ). Runs (set nx c.first 0) u (drop 1 (along nx c))) (sym et) (run_frame nx (slice_index nx c.first) (drop 1 (along nx c)) c.first 0 z1 r.1))
     (omega arith)
-    (sym f, subst (λ (x : ℕ). get_or (set nx c.first 0) x 0 ≡ 0) (sym f) (get_or-set_same nx c.first 0 0 (omega arith)))
+    (sym f, subst (λ (x : ℕ). slice_index (set nx c.first 0) x ≡ 0) (sym f) (get_or-set_same nx c.first 0 0 (omega arith)))
     refl fr.0 fr.1)
 
 -- two neighbours in a run, of which the second is taken out
 unlinked : (nx : List ℕ) (s : ℕ) (pre : List ℕ) (b i : ℕ) (post : List ℕ) → ((p : ℕ) → times p (pre ++ b ∷ i ∷ post) ≤ 1) → b < length nx → i < length nx
     → Runs nx s (pre ++ b ∷ i ∷ post)
-    → Runs (set (set nx b (get_or nx i 0)) i 0) s (pre ++ b ∷ post) × Runs (set (set nx b (get_or nx i 0)) i 0) i (i ∷ [])
+    → Runs (set (set nx b (slice_index nx i)) i 0) s (pre ++ b ∷ post) × Runs (set (set nx b (slice_index nx i)) i 0) i (i ∷ [])
 unlinked nx s pre b i post most bl il r =
     let tb : times b (pre ++ b ∷ i ∷ post) ≡ times b pre + times b (b ∷ i ∷ post) = times-++ b pre (b ∷ i ∷ post) in
     let ti : times i (pre ++ b ∷ i ∷ post) ≡ times i pre + times i (b ∷ i ∷ post) = times-++ i pre (b ∷ i ∷ post) in
@@ -169,16 +169,16 @@ unlinked nx s pre b i post most bl il r =
     let z1 : times b pre ≡ 0 = omega arith in
     let z2 : times b post ≡ 0 = omega arith in
     let z3 : times i (pre ++ b ∷ post) ≡ 0 = omega arith in
-    let after : Runs nx (get_or nx i 0) post = (run_after nx s pre b (i ∷ post) r).1 in
-    let cut : Runs (set nx b (get_or nx i 0)) s (pre ++ b ∷ post) = splice nx s pre b (i ∷ post) (get_or nx i 0) post bl z1 z2 r after in
-    let il' : i < length (set nx b (get_or nx i 0)) = subst (λ (m : ℕ). i < m) (sym (length-set nx b (get_or nx i 0))) il in (
-      run_frame (set nx b (get_or nx i 0)) s (pre ++ b ∷ post) i 0 z3 cut,
-      (refl, get_or-set_same (set nx b (get_or nx i 0)) i 0 0 il'),
+    let after : Runs nx (slice_index nx i) post = (run_after nx s pre b (i ∷ post) r).1 in
+    let cut : Runs (set nx b (slice_index nx i)) s (pre ++ b ∷ post) = splice nx s pre b (i ∷ post) (slice_index nx i) post bl z1 z2 r after in
+    let il' : i < length (set nx b (slice_index nx i)) = subst (λ (m : ℕ). i < m) (sym (length-set nx b (slice_index nx i))) il in (
+      run_frame (set nx b (slice_index nx i)) s (pre ++ b ∷ post) i 0 z3 cut,
+      (refl, get_or-set_same (set nx b (slice_index nx i)) i 0 0 il'),
     )
 
 -- a later place detached: the place before it leads to what it led to, and it leads to the end
 pub detached_later : (n : ℕ) (nx nx1 nx2 : List ℕ) (c : Chain) (k b i a : ℕ) (others : List Chain) → length nx ≡ n + 1 → 0 < k → k < c.count → Shared n nx (c ∷ others)
-    → b ≡ follow (k - 1) nx c.first → i ≡ get_or nx b 0 → a ≡ get_or nx i 0 → (0 < b → nx1 ≡ set nx b a) → (0 < i → nx2 ≡ set nx1 i 0)
+    → b ≡ follow (k - 1) nx c.first → i ≡ slice_index nx b → a ≡ slice_index nx i → (0 < b → nx1 ≡ set nx b a) → (0 < i → nx2 ≡ set nx1 i 0)
     → Detached n nx nx2 c k (record { first = c.first; count = c.count - 1 }) (record { first = i; count = 1 }) others
 detached_later n nx nx1 nx2 c zero b i a others long pos lt sh eb ei ea e1 e2 = absurd (omega arith)
 detached_later n nx nx1 nx2 c (suc q) b i a others long pos lt sh eb ei ea e1 e2 =
@@ -187,15 +187,15 @@ detached_later n nx nx1 nx2 c (suc q) b i a others long pos lt sh eb ei ea e1 e2
     let lk : suc q < length (along nx c) = omega arith in
     let q1 : suc q - 1 ≡ q = omega arith in
     let s1 : q + 1 ≡ suc q = omega arith in
-    let fb : b ≡ get_or (along nx c) q 0
+    let fb : b ≡ slice_index (along nx c) q
     = eb ∙ ap (λ (m : ℕ). follow m nx c.first) q1 ∙ sym (get_d_walk c.count q nx c.first (omega arith)) in
-    let fi : i ≡ get_or (along nx c) (suc q) 0
-    = ei ∙ ap (λ (m : ℕ). get_or nx m 0) (eb ∙ ap (λ (m : ℕ). follow m nx c.first) q1) ∙ sym (follow_more q nx c.first) ∙ sym (get_d_walk c.count (suc q) nx c.first lt) in
+    let fi : i ≡ slice_index (along nx c) (suc q)
+    = ei ∙ ap (λ (m : ℕ). slice_index nx m) (eb ∙ ap (λ (m : ℕ). follow m nx c.first) q1) ∙ sym (follow_more q nx c.first) ∙ sym (get_d_walk c.count (suc q) nx c.first lt) in
     let mb : 1 ≤ times b (along nx c) = subst (λ (x : ℕ). 1 ≤ times x (along nx c)) (sym fb) (met_at (along nx c) q lq) in
     let mi : 1 ≤ times i (along nx c) = subst (λ (x : ℕ). 1 ≤ times x (along nx c)) (sym fi) (met_at (along nx c) (suc q) lk) in
     let rb : (0 < b) × (b ≤ n) = in_range n nx c others b sh mb in
     let ri : (0 < i) × (i ≤ n) = in_range n nx c others i sh mi in
-    let e : nx2 ≡ set (set nx b (get_or nx i 0)) i 0 = e2 ri.0 ∙ ap (λ (m : List ℕ). set m i 0) (e1 rb.0 ∙ ap (λ (v : ℕ). set nx b v) ea) in
+    let e : nx2 ≡ set (set nx b (slice_index nx i)) i 0 = e2 ri.0 ∙ ap (λ (m : List ℕ). set m i 0) (e1 rb.0 ∙ ap (λ (v : ℕ). set nx b v) ea) in
     let tk : take (suc q) (along nx c) ≡ take q (along nx c) ++ b ∷ []
     = ap (λ (m : ℕ). take m (along nx c)) (sym s1) ∙ take_more (along nx c) q 0 lq ∙ ap (λ (x : ℕ). take q (along nx c) ++ x ∷ []) (sym fb) in
     let sp : along nx c ≡ take q (along nx c) ++ b ∷ i ∷ drop (suc q + 1) (along nx c)
@@ -207,20 +207,20 @@ detached_later n nx nx1 nx2 c (suc q) b i a others long pos lt sh eb ei ea e1 e2
     = ap (λ (xs : List ℕ). xs ++ drop (suc q + 1) (along nx c)) tk ∙ append_assoc (take q (along nx c)) (b ∷ []) (drop (suc q + 1) (along nx c)) in
     let most : (p : ℕ) → times p (take q (along nx c) ++ b ∷ i ∷ drop (suc q + 1) (along nx c)) ≤ 1
     = λ p. subst (λ (xs : List ℕ). times p xs ≤ 1) sp (first_once n nx c others sh p) in
-    let u : Runs (set (set nx b (get_or nx i 0)) i 0) c.first (take q (along nx c) ++ b ∷ drop (suc q + 1) (along nx c)) × Runs (set (set nx b (get_or nx i 0)) i 0) i (i ∷ [])
+    let u : Runs (set (set nx b (slice_index nx i)) i 0) c.first (take q (along nx c) ++ b ∷ drop (suc q + 1) (along nx c)) × Runs (set (set nx b (slice_index nx i)) i 0) i (i ∷ [])
     = unlinked nx c.first (take q (along nx c)) b i (drop (suc q + 1) (along nx c)) most (omega arith) (omega arith)
     (subst (λ (xs : List ℕ). Runs nx c.first xs) sp (run_first n nx c others sh)) in
-    let f1 : (map (along (set nx b (get_or nx i 0))) others ≡ map (along nx) others) × Ended (set nx b (get_or nx i 0)) others
-    = frame nx others b (get_or nx i 0) (apart n nx c others b sh mb) sh.ended.1 in
-    let zi : times i (flat_map (along (set nx b (get_or nx i 0))) others) ≡ 0
-    = ap (times i) (joined_kept nx (set nx b (get_or nx i 0)) others f1.0) ∙ apart n nx c others i sh mi in
-    let f2 : (map (along (set (set nx b (get_or nx i 0)) i 0)) others ≡ map (along (set nx b (get_or nx i 0))) others) × Ended (set (set nx b (get_or nx i 0)) i 0) others
-    = frame (set nx b (get_or nx i 0)) others i 0 zi f1.1 in
+    let f1 : (map (along (set nx b (slice_index nx i))) others ≡ map (along nx) others) × Ended (set nx b (slice_index nx i)) others
+    = frame nx others b (slice_index nx i) (apart n nx c others b sh mb) sh.ended.1 in
+    let zi : times i (flat_map (along (set nx b (slice_index nx i))) others) ≡ 0
+    = ap (times i) (joined_kept nx (set nx b (slice_index nx i)) others f1.0) ∙ apart n nx c others i sh mi in
+    let f2 : (map (along (set (set nx b (slice_index nx i)) i 0)) others ≡ map (along (set nx b (slice_index nx i))) others) × Ended (set (set nx b (slice_index nx i)) i 0) others
+    = frame (set nx b (slice_index nx i)) others i 0 zi f1.1 in
     subst (λ (mx : List ℕ). Detached n nx mx c (suc q) (record { first = c.first; count = c.count - 1 }) (record { first = i; count = 1 }) others) (sym e)
-    (parted n nx (set (set nx b (get_or nx i 0)) i 0) c (suc q) (record { first = c.first; count = c.count - 1 }) (record { first = i; count = 1 }) others lt sh
-    (subst (λ (xs : List ℕ). Runs (set (set nx b (get_or nx i 0)) i 0) c.first xs) (sym sw) u.0)
+    (parted n nx (set (set nx b (slice_index nx i)) i 0) c (suc q) (record { first = c.first; count = c.count - 1 }) (record { first = i; count = 1 }) others lt sh
+    (subst (λ (xs : List ℕ). Runs (set (set nx b (slice_index nx i)) i 0) c.first xs) (sym sw) u.0)
     (omega arith)
-    (subst (λ (x : ℕ). Runs (set (set nx b (get_or nx i 0)) i 0) i (x ∷ [])) fi u.1)
+    (subst (λ (x : ℕ). Runs (set (set nx b (slice_index nx i)) i 0) i (x ∷ [])) fi u.1)
     refl (f2.0 ∙ f1.0) f2.1)
 
 -- ---- two chains joined
@@ -253,13 +253,6 @@ bound n nx nx' a b both others sh r ec fr en =
       kept = fr;
     }
 
-pub joined_none : (n : ℕ) (nx : List ℕ) (a b : Chain) (others : List Chain) → a.count ≡ 0 → Shared n nx (a ∷ b ∷ others) → Joined n nx nx a b b others
-joined_none n nx a b others z sh =
-    let e : along nx a ≡ [] = ap (λ (m : ℕ). walk m nx a.first) z in
-    bound n nx nx a b b others sh
-    (subst (λ (xs : List ℕ). Runs nx b.first (xs ++ along nx b)) (sym e) (runs_of b.count nx b.first sh.ended.1.0))
-    (omega arith) refl sh.ended.1.1
-
 pub joined_some : (n : ℕ) (nx nx' : List ℕ) (a b : Chain) (l m : ℕ) (others : List Chain) → length nx ≡ n + 1 → 0 < a.count → Shared n nx (a ∷ b ∷ others)
     → l ≡ follow (a.count - 1) nx a.first → (0 < l → nx' ≡ set nx l b.first) → m ≡ a.count + b.count
     → Joined n nx nx' a b (record { first = a.first; count = m }) others
@@ -267,12 +260,12 @@ joined_some n nx nx' a b l m others long pos sh el en em =
     let q : ℕ = a.count - 1 in
     let la : length (along nx a) ≡ a.count = length-walk a.count nx a.first in
     let lq : a.count - 1 < length (along nx a) = omega arith in
-    let fl : l ≡ get_or (along nx a) (a.count - 1) 0 = el ∙ sym (get_d_walk a.count (a.count - 1) nx a.first (omega arith)) in
+    let fl : l ≡ slice_index (along nx a) (a.count - 1) = el ∙ sym (get_d_walk a.count (a.count - 1) nx a.first (omega arith)) in
     let ml : 1 ≤ times l (along nx a) = subst (λ (x : ℕ). 1 ≤ times x (along nx a)) (sym fl) (met_at (along nx a) (a.count - 1) lq) in
     let rl : (0 < l) × (l ≤ n) = in_range n nx a (b ∷ others) l sh ml in
     let sp : along nx a ≡ take (a.count - 1) (along nx a) ++ l ∷ []
     = split_at (a.count - 1) (along nx a) lq
-    ∙ ap (λ (xs : List ℕ). take (a.count - 1) (along nx a) ++ get_or (along nx a) (a.count - 1) 0 ∷ xs) (drop_all (a.count - 1 + 1) (along nx a) (omega arith))
+    ∙ ap (λ (xs : List ℕ). take (a.count - 1) (along nx a) ++ slice_index (along nx a) (a.count - 1) ∷ xs) (drop_all (a.count - 1 + 1) (along nx a) (omega arith))
     ∙ ap (λ (x : ℕ). take (a.count - 1) (along nx a) ++ x ∷ []) (sym fl) in
     let sj : along nx a ++ along nx b ≡ take (a.count - 1) (along nx a) ++ l ∷ along nx b
     = ap (λ (xs : List ℕ). xs ++ along nx b) sp ∙ append_assoc (take (a.count - 1) (along nx a)) (l ∷ []) (along nx b) in
@@ -308,10 +301,10 @@ abbrev down : ℕ → List ℕ
 down zero = []
 down (suc n) = suc n ∷ down n
 
-runs_down : (n : ℕ) (nx : List ℕ) → ((k : ℕ) → k ≤ n → get_or nx k 0 ≡ k - 1) → Runs nx n (down n)
+runs_down : (n : ℕ) (nx : List ℕ) → ((k : ℕ) → k ≤ n → slice_index nx k ≡ k - 1) → Runs nx n (down n)
 runs_down zero nx h = refl
 runs_down (suc n) nx h =
-    let e : get_or nx (suc n) 0 ≡ n = h (suc n) (omega arith) ∙ (omega arith) in
+    let e : slice_index nx (suc n) ≡ n = h (suc n) (omega arith) ∙ (omega arith) in
     (refl, subst (λ (s : ℕ). Runs nx s (down n)) (sym e) (runs_down n nx (λ k l. h k (omega arith))))
 
 length-down : (n : ℕ) → length (down n) ≡ n
@@ -344,7 +337,7 @@ only_down p (suc n) h = ⊎_elim here (there (only_down p n)) (cases_eq (suc n) 
     there : (0 < times p (down n) → (0 < p) × (p ≤ n)) → (suc n ≡ p → ⊥) → (0 < p) × (p ≤ suc n)
     there less ne = let a : hit p (suc n) ≡ 0 = hit_other p (suc n) ne in let r : (0 < p) × (p ≤ n) = less (omega arith) in (r.0, omega arith)
 
-pub shared_down : (n : ℕ) (nx : List ℕ) → ((k : ℕ) → k ≤ n → get_or nx k 0 ≡ k - 1) → Shared n nx (record { first = n; count = n } ∷ [])
+pub shared_down : (n : ℕ) (nx : List ℕ) → ((k : ℕ) → k ≤ n → slice_index nx k ≡ k - 1) → Shared n nx (record { first = n; count = n } ∷ [])
 shared_down n nx h =
     let r : Runs nx n (down n) = runs_down n nx h in
     let e : walk n nx n ++ [] ≡ down n = append-nil (walk n nx n) ∙ walk_of nx n (down n) n r (length-down n) in
@@ -355,17 +348,13 @@ shared_down n nx h =
       ended = (end_of nx n (down n) n r (length-down n), tt);
     }
 
-pub down_none : (nx : List ℕ) → (k : ℕ) → k ≤ 0 → get_or (0 ∷ nx) k 0 ≡ k - 1
-down_none nx zero h = refl
-down_none nx (suc k) h = absurd (omega arith)
-
-pub down_more : (nx nx' : List ℕ) (i : ℕ) → i + 1 < length nx → nx' ≡ set nx (i + 1) i → ((k : ℕ) → k ≤ i → get_or nx k 0 ≡ k - 1) → (k : ℕ) → k ≤ i + 1 → get_or nx' k 0 ≡ k - 1
-down_more nx nx' i long e h k le = ap (λ (mx : List ℕ). get_or mx k 0) e ∙ ⊎_elim here there (cases_eq k (i + 1))
+pub down_more : (nx nx' : List ℕ) (i : ℕ) → i + 1 < length nx → nx' ≡ set nx (i + 1) i → ((k : ℕ) → k ≤ i → slice_index nx k ≡ k - 1) → (k : ℕ) → k ≤ i + 1 → slice_index nx' k ≡ k - 1
+down_more nx nx' i long e h k le = ap (λ (mx : List ℕ). slice_index mx k) e ∙ ⊎_elim here there (cases_eq k (i + 1))
   where
-    here : k ≡ i + 1 → get_or (set nx (i + 1) i) k 0 ≡ k - 1
-    here q = ap (λ (j : ℕ). get_or (set nx (i + 1) i) j 0) q ∙ get_or-set_same nx (i + 1) i 0 long ∙ (omega arith)
+    here : k ≡ i + 1 → slice_index (set nx (i + 1) i) k ≡ k - 1
+    here q = ap (λ (j : ℕ). slice_index (set nx (i + 1) i) j) q ∙ get_or-set_same nx (i + 1) i 0 long ∙ (omega arith)
 
-    there : (k ≡ i + 1 → ⊥) → get_or (set nx (i + 1) i) k 0 ≡ k - 1
+    there : (k ≡ i + 1 → ⊥) → slice_index (set nx (i + 1) i) k ≡ k - 1
     there ne = get_or-set_other nx (i + 1) k i 0 ne ∙ h k (omega arith)
 
 -- ---- the order of the chains

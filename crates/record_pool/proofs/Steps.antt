@@ -1,7 +1,8 @@
 -- What each operation makes of the chains, over the records before and after each of its steps.
-use Rattle.std.proofs.Common.{◌≡◌, ℕ, zero, suc, ◌+◌, ◌^◌, ◌<◌, ◌≤◌, ltb, ◌≢◌, List, [], ◌∷◌, ◌++◌, map, length, get_or, take, drop, set, is_some, Some, None, Option, sym, refl, ap, ◌∙◌, subst, ⊎_elim, arith, length-set, get_or-set_other, get_or-set_same}
+use Rattle.std.proofs.Common.{◌≡◌, ℕ, zero, suc, ◌+◌, ◌^◌, ◌<◌, ◌≤◌, nat_lt, ◌≢◌, List, [], ◌∷◌, ◌++◌, map, length, slice_index, slice_index_or, take, drop, set, is_some, Some, None, Option, sym, refl, ap, ◌∙◌, subst, ⊎_elim, arith, length-set, get_or-set_other, get_or-set_same}
 use Rattle.std.specs.List.{flat_map}
-use Rattle.std.proofs.lemmas.Bool.{cases_lt, lt-ltb, le-ltb}
+use Rattle.std.specs.Prelude.{IfSome}
+use Rattle.std.proofs.lemmas.Bool.{cases_lt, lt-ltb, le-ltb, ltb-true, ltb-false}
 use Rattle.std.proofs.lemmas.List.{map-append, take-map, drop-map, drop_more}
 use Rattle.record_pool.specs.declared.chain.Chain.{Chain}
 use Rattle.record_pool.specs.declared.record.Record.{Record}
@@ -68,13 +69,13 @@ some-length rs rs' p x e =
     omega arith
 
 read_same : {X : Type 0} (rs rs' : List (Record X)) → slots rs' ≡ slots rs → (p : ℕ) → item_at rs' p ≡ item_at rs p
-read_same {X = X} rs rs' e p = ap (λ (ys : List (Option X)). get_or ys p None) e
+read_same {X = X} rs rs' e p = ap (λ (ys : List (Option X)). slice_index_or ys p None) e
 
-some_other : {X : Type 0} (ys : List (Option X)) (i : ℕ) (x : X) (p : ℕ) → p ≢ i → get_or (some_at ys i x) p None ≡ get_or ys p None
+some_other : {X : Type 0} (ys : List (Option X)) (i : ℕ) (x : X) (p : ℕ) → p ≢ i → slice_index_or (some_at ys i x) p None ≡ slice_index_or ys p None
 some_other ys zero x p ne = refl
 some_other ys (suc i) x p ne = get_or-set_other ys (suc i) p (Some x) None ne
 
-some_here : {X : Type 0} (ys : List (Option X)) (i : ℕ) (x : X) → 0 < i → i < length ys → get_or (some_at ys i x) i None ≡ Some x
+some_here : {X : Type 0} (ys : List (Option X)) (i : ℕ) (x : X) → 0 < i → i < length ys → slice_index_or (some_at ys i x) i None ≡ Some x
 some_here ys zero x pos lt = absurd (omega arith)
 some_here ys (suc i) x pos lt = get_or-set_same ys (suc i) (Some x) None lt
 
@@ -92,97 +93,89 @@ map_to_back {Y = Y} f k xs =
     map-append f (without k xs) (take 1 (drop k xs)) ∙ ap (λ (ys : List Y). ys ++ map f (take 1 (drop k xs))) (map-without f k xs)
     ∙ ap (λ (ys : List Y). without k (map f xs) ++ ys) (sym (take-map f 1 (drop k xs)) ∙ ap (take 1) (sym (drop-map f k xs)))
 
-one_at : (k : ℕ) (xs : List ℕ) → k < length xs → get_or xs k 0 ∷ [] ≡ take 1 (drop k xs)
+one_at : (k : ℕ) (xs : List ℕ) → k < length xs → slice_index xs k ∷ [] ≡ take 1 (drop k xs)
 one_at k xs lt = ap (take 1) (sym (drop_more xs k 0 lt))
 
 -- ---- the operations
 
--- a free record detached, and the item x written into it: what the chain and the others then have
-record Ready {X : Type 0} (rs rs2 : List (Record X)) (free chain rest one : Chain) (others : List Chain) (x : X) : Type 0 where
-  pub size : length rs2 ≡ length rs
-  pub shared : Shared (length rs2) (links rs2) (rest ∷ one ∷ chain ∷ others)
-  pub chain_places : along (links rs2) chain ≡ along (links rs) chain
-  pub one_places : along (links rs2) one ≡ free.first ∷ []
-  pub kept_places : map (along (links rs2)) others ≡ map (along (links rs)) others
-  pub chain_held : map (item_at rs2) (along (links rs) chain) ≡ map (item_at rs) (along (links rs) chain)
-  pub one_held : item_at rs2 free.first ≡ Some x
-  pub kept_held : (p : ℕ) → 1 ≤ times p (flat_map (along (links rs)) others) → item_at rs2 p ≡ item_at rs p
-
-ready : {X : Type 0} (rs rs1 rs2 : List (Record X)) (free chain rest one : Chain) (others : List Chain) (x : X)
-    → 0 < free.count → Shared (length rs) (links rs) (free ∷ chain ∷ others)
-    → slots rs1 ≡ slots rs → Detached (length rs) (links rs) (links rs1) free 0 rest one (chain ∷ others)
-    → links rs2 ≡ links rs1 → slots rs2 ≡ some_at (slots rs1) free.first x → Ready rs rs2 free chain rest one others x
-ready {X = X} rs rs1 rs2 free chain rest one others x some sh s1 det l2 s2 =
+-- a free record detached, and the item x written into it
+pub taken : {X : Type 0} (rs rs1 rs2 : List (Record X)) (free rest one : Chain) (others : List Chain) (x : X)
+    → length rs < 2 ^ 32 → 0 < free.count → Shared (length rs) (links rs) (free ∷ others)
+    → slots rs1 ≡ slots rs → Detached (length rs) (links rs) (links rs1) free 0 rest one others
+    → links rs2 ≡ links rs1 → slots rs2 ≡ some_at (slots rs1) free.first x
+    → Outcome rs rs2 rest one others (free.first ∷ []) (Some x ∷ [])
+taken {X = X} rs rs1 rs2 free rest one others x small some sh s1 det l2 s2 =
     let lf : length (along (links rs) free) ≡ free.count = length-walk free.count (links rs) free.first in
-    let fi : get_or (along (links rs) free) 0 0 ≡ free.first = get_d_walk free.count 0 (links rs) free.first some in
+    let fi : slice_index (along (links rs) free) 0 ≡ free.first = get_d_walk free.count 0 (links rs) free.first some in
     let mi : 1 ≤ times free.first (along (links rs) free) = subst (λ (p : ℕ). 1 ≤ times p (along (links rs) free)) fi (met_at (along (links rs) free) 0 (omega arith)) in
-    let ri : (0 < free.first) × (free.first ≤ length rs) = in_range (length rs) (links rs) free (chain ∷ others) free.first sh mi in
-    let zi : times free.first (along (links rs) chain ++ flat_map (along (links rs)) others) ≡ 0 = apart (length rs) (links rs) free (chain ∷ others) free.first sh mi in
-    let ti : times free.first (along (links rs) chain ++ flat_map (along (links rs)) others) ≡ times free.first (along (links rs) chain) + times free.first (flat_map (along (links rs)) others) = times-++ free.first (along (links rs) chain) (flat_map (along (links rs)) others) in
-    let zc : times free.first (along (links rs) chain) ≡ 0 = omega arith in
-    let zo : times free.first (flat_map (along (links rs)) others) ≡ 0 = omega arith in
-    let n2 : length rs2 ≡ length rs = some-length rs rs2 free.first x (s2 ∙ ap (λ (ys : List (Option X)). some_at ys free.first x) s1) in
-    let read : (p : ℕ) → item_at rs2 p ≡ get_or (some_at (slots rs) free.first x) p None
-    = λ p. ap (λ (ys : List (Option X)). get_or ys p None) (s2 ∙ ap (λ (ys : List (Option X)). some_at ys free.first x) s1) in
+    let ri : (0 < free.first) × (free.first ≤ length rs) = in_range (length rs) (links rs) free others free.first sh mi in
+    let zo : times free.first (flat_map (along (links rs)) others) ≡ 0 = apart (length rs) (links rs) free others free.first sh mi in
+    let s : slots rs2 ≡ some_at (slots rs) free.first x = s2 ∙ ap (λ (ys : List (Option X)). some_at ys free.first x) s1 in
+    let n2 : length rs2 ≡ length rs = some-length rs rs2 free.first x s in
+    let read : (p : ℕ) → item_at rs2 p ≡ slice_index_or (some_at (slots rs) free.first x) p None = λ p. ap (λ (ys : List (Option X)). slice_index_or ys p None) s in
+    let here : item_at rs2 free.first ≡ Some x = read free.first ∙ some_here (slots rs) free.first x ri.0 (let q : length (slots rs) ≡ length rs + 1 = length-slots rs in omega arith) in
+    let ep : along (links rs2) one ≡ free.first ∷ [] = ap (λ (nx : List ℕ). along nx one) l2 ∙ det.ones ∙ ap (λ (p : ℕ). p ∷ []) fi in
+    let ko : map (along (links rs2)) others ≡ map (along (links rs)) others = ap (λ (nx : List ℕ). map (along nx) others) l2 ∙ det.kept in
     record {
-      size = n2;
-      shared = carried (length rs) (length rs2) (links rs1) (links rs2) (rest ∷ one ∷ chain ∷ others) n2 l2 det.shared;
-      chain_places = ap (λ (nx : List ℕ). along nx chain) l2 ∙ ap (λ (l : List (List ℕ)). get_or l 0 []) det.kept;
-      one_places = ap (λ (nx : List ℕ). along nx one) l2 ∙ det.ones ∙ ap (λ (p : ℕ). p ∷ []) fi;
-      kept_places = ap (λ (nx : List ℕ). map (along nx) others) l2 ∙ ap (drop 1) det.kept;
-      chain_held = agree (item_at rs2) (item_at rs) (along (links rs) chain) (λ p m. read p ∙ some_other (slots rs) free.first x p (unmet free.first p (along (links rs) chain) zc m));
-      one_held = read free.first ∙ some_here (slots rs) free.first x ri.0 (let q : length (slots rs) ≡ length rs + 1 = length-slots rs in omega arith);
-      kept_held = λ p m. read p ∙ some_other (slots rs) free.first x p (unmet free.first p (flat_map (along (links rs)) others) zo m);
-    }
-
--- ready, and joined to the chain at one of its ends
-attached : {X : Type 0} (rs rs2 rs3 : List (Record X)) (free chain rest one front back both : Chain) (others : List Chain) (x : X) (ps : List ℕ) (xs : List (Option X))
-    → length rs < 2 ^ 32 → Ready rs rs2 free chain rest one others x
-    → slots rs3 ≡ slots rs2 → Joined (length rs2) (links rs2) (links rs3) front back both (rest ∷ others)
-    → along (links rs2) front ++ along (links rs2) back ≡ ps → map (item_at rs2) ps ≡ xs
-    → Outcome rs rs3 rest both others ps xs
-attached rs rs2 rs3 free chain rest one front back both others x ps xs small y s3 j eps exs =
-    let n3 : length rs3 ≡ length rs2 = same_length rs2 rs3 s3 in
-    let ep : along (links rs3) both ≡ ps = j.boths ∙ eps in
-    let ko : map (along (links rs3)) others ≡ map (along (links rs)) others = ap (drop 1) j.kept ∙ y.kept_places in
-    record {
-      size = subst (λ (m : ℕ). m < 2 ^ 32) (sym (n3 ∙ y.size)) small;
-      shared = carried (length rs2) (length rs3) (links rs3) (links rs3) (rest ∷ both ∷ others) n3 refl (bring (length rs2) (links rs3) (both ∷ []) rest others j.shared);
+      size = subst (λ (m : ℕ). m < 2 ^ 32) (sym n2) small;
+      shared = carried (length rs) (length rs2) (links rs1) (links rs2) (rest ∷ one ∷ others) n2 l2 det.shared;
       places = ep;
-      held = ap (map (item_at rs3)) ep ∙ agree (item_at rs3) (item_at rs2) ps (λ p m. read_same rs2 rs3 s3 p) ∙ exs;
+      held = ap (map (item_at rs2)) ep ∙ ap (λ (v : Option X). v ∷ []) here;
       kept_places = ko;
-      kept_held = held_kept (item_at rs3) (item_at rs) (links rs) (links rs3) others ko (λ p m. read_same rs2 rs3 s3 p ∙ y.kept_held p m);
+      kept_held = held_kept (item_at rs2) (item_at rs) (links rs) (links rs2) others ko (λ p m. read p ∙ some_other (slots rs) free.first x p (unmet free.first p (flat_map (along (links rs)) others) zo m));
     }
 
--- a free record at the end of a chain
-pub pushed_back : {X : Type 0} (rs rs1 rs2 rs3 : List (Record X)) (free chain rest one both : Chain) (others : List Chain) (x : X)
-    → length rs < 2 ^ 32 → 0 < free.count → Shared (length rs) (links rs) (free ∷ chain ∷ others)
-    → slots rs1 ≡ slots rs → Detached (length rs) (links rs) (links rs1) free 0 rest one (chain ∷ others)
-    → links rs2 ≡ links rs1 → slots rs2 ≡ some_at (slots rs1) free.first x
-    → slots rs3 ≡ slots rs2 → (length rs2 < 2 ^ 32 → Shared (length rs2) (links rs2) (chain ∷ one ∷ rest ∷ others) → Joined (length rs2) (links rs2) (links rs3) chain one both (rest ∷ others))
-    → Outcome rs rs3 rest both others (along (links rs) chain ++ free.first ∷ []) (map (item_at rs) (along (links rs) chain) ++ Some x ∷ [])
-pushed_back {X = X} rs rs1 rs2 rs3 free chain rest one both others x small some sh s1 det l2 s2 s3 joins =
-    let y : Ready rs rs2 free chain rest one others x = ready rs rs1 rs2 free chain rest one others x some sh s1 det l2 s2 in
-    attached rs rs2 rs3 free chain rest one chain one both others x _ _ small y s3
-    (joins (subst (λ (m : ℕ). m < 2 ^ 32) (sym y.size) small)
-    (bring (length rs2) (links rs2) (one ∷ rest ∷ []) chain others (bring (length rs2) (links rs2) (rest ∷ []) one (chain ∷ others) y.shared)))
-    (ap (λ (ps : List ℕ). ps ++ along (links rs2) one) y.chain_places ∙ ap (λ (ps : List ℕ). along (links rs) chain ++ ps) y.one_places)
-    (map-append (item_at rs2) (along (links rs) chain) (free.first ∷ [])
-    ∙ ap (λ (ys : List (Option X)). ys ++ item_at rs2 free.first ∷ []) y.chain_held ∙ ap (λ (v : Option X). map (item_at rs) (along (links rs) chain) ++ v ∷ []) y.one_held)
+-- two chains joined
+attached : {X : Type 0} (rs rs1 : List (Record X)) (free front back both : Chain) (others : List Chain)
+    → length rs < 2 ^ 32 → slots rs1 ≡ slots rs → Joined (length rs) (links rs) (links rs1) front back both (free ∷ others)
+    → Outcome rs rs1 free both others (along (links rs) front ++ along (links rs) back) (map (item_at rs) (along (links rs) front) ++ map (item_at rs) (along (links rs) back))
+attached rs rs1 free front back both others small s1 j =
+    let n1 : length rs1 ≡ length rs = same_length rs rs1 s1 in
+    let ko : map (along (links rs1)) others ≡ map (along (links rs)) others = ap (drop 1) j.kept in
+    record {
+      size = subst (λ (m : ℕ). m < 2 ^ 32) (sym n1) small;
+      shared = carried (length rs) (length rs1) (links rs1) (links rs1) (free ∷ both ∷ others) n1 refl (bring (length rs) (links rs1) (both ∷ []) free others j.shared);
+      places = j.boths;
+      held = ap (map (item_at rs1)) j.boths ∙ agree (item_at rs1) (item_at rs) (along (links rs) front ++ along (links rs) back) (λ p m. read_same rs rs1 s1 p) ∙ map-append (item_at rs) (along (links rs) front) (along (links rs) back);
+      kept_places = ko;
+      kept_held = held_kept (item_at rs1) (item_at rs) (links rs) (links rs1) others ko (λ p m. read_same rs rs1 s1 p);
+    }
 
--- a free record before a chain
-pub pushed_front : {X : Type 0} (rs rs1 rs2 rs3 : List (Record X)) (free chain rest one both : Chain) (others : List Chain) (x : X)
-    → length rs < 2 ^ 32 → 0 < free.count → Shared (length rs) (links rs) (free ∷ chain ∷ others)
-    → slots rs1 ≡ slots rs → Detached (length rs) (links rs) (links rs1) free 0 rest one (chain ∷ others)
-    → links rs2 ≡ links rs1 → slots rs2 ≡ some_at (slots rs1) free.first x
-    → slots rs3 ≡ slots rs2 → (length rs2 < 2 ^ 32 → Shared (length rs2) (links rs2) (one ∷ chain ∷ rest ∷ others) → Joined (length rs2) (links rs2) (links rs3) one chain both (rest ∷ others))
-    → Outcome rs rs3 rest both others (free.first ∷ along (links rs) chain) (Some x ∷ map (item_at rs) (along (links rs) chain))
-pushed_front {X = X} rs rs1 rs2 rs3 free chain rest one both others x small some sh s1 det l2 s2 s3 joins =
-    let y : Ready rs rs2 free chain rest one others x = ready rs rs1 rs2 free chain rest one others x some sh s1 det l2 s2 in
-    attached rs rs2 rs3 free chain rest one one chain both others x _ _ small y s3
-    (joins (subst (λ (m : ℕ). m < 2 ^ 32) (sym y.size) small) (send (length rs2) (links rs2) (one ∷ chain ∷ []) rest others y.shared))
-    (ap (λ (ps : List ℕ). ps ++ along (links rs2) chain) y.one_places ∙ ap (λ (ps : List ℕ). free.first ∷ ps) y.chain_places)
-    (ap (λ (ys : List (Option X)). item_at rs2 free.first ∷ ys) y.chain_held ∙ ap (λ (v : Option X). v ∷ map (item_at rs) (along (links rs) chain)) y.one_held)
+-- a chain taken, and joined to another at one of its ends
+module _ {X : Type 0} (rs rs1 rs2 : List (Record X)) (free chain one both : Chain) (others : List Chain) (ps : List ℕ) (xs : List (Option X)) (o : Outcome rs rs1 free one (chain ∷ others) ps xs)
+    (s2 : slots rs2 ≡ slots rs1) where
+  chain_places : along (links rs1) chain ≡ along (links rs) chain
+  chain_places = ap (λ (l : List (List ℕ)). slice_index_or l 0 []) o.kept_places
+
+  chain_held : map (item_at rs1) (along (links rs1) chain) ≡ map (item_at rs) (along (links rs) chain)
+  chain_held = ap (λ (l : List (List (Option X))). slice_index_or l 0 []) o.kept_held
+
+  pub pushed_back : (length rs1 < 2 ^ 32 → Shared (length rs1) (links rs1) (chain ∷ one ∷ free ∷ others) → Joined (length rs1) (links rs1) (links rs2) chain one both (free ∷ others))
+      → Outcome rs rs2 free both others (along (links rs) chain ++ ps) (map (item_at rs) (along (links rs) chain) ++ xs)
+  pushed_back joins =
+      let sh = bring (length rs1) (links rs1) (one ∷ free ∷ []) chain others (bring (length rs1) (links rs1) (free ∷ []) one (chain ∷ others) o.shared) in
+      let a = attached rs1 rs2 free chain one both others o.size s2 (joins o.size sh) in
+      record {
+        size = a.size;
+        shared = a.shared;
+        places = a.places ∙ ap (λ (l : List ℕ). l ++ along (links rs1) one) chain_places ∙ ap (λ (l : List ℕ). along (links rs) chain ++ l) o.places;
+        held = a.held ∙ ap (λ (l : List (Option X)). l ++ map (item_at rs1) (along (links rs1) one)) chain_held ∙ ap (λ (l : List (Option X)). map (item_at rs) (along (links rs) chain) ++ l) o.held;
+        kept_places = a.kept_places ∙ ap (drop 1) o.kept_places;
+        kept_held = a.kept_held ∙ ap (drop 1) o.kept_held;
+      }
+
+  pub pushed_front : (length rs1 < 2 ^ 32 → Shared (length rs1) (links rs1) (one ∷ chain ∷ free ∷ others) → Joined (length rs1) (links rs1) (links rs2) one chain both (free ∷ others))
+      → Outcome rs rs2 free both others (ps ++ along (links rs) chain) (xs ++ map (item_at rs) (along (links rs) chain))
+  pushed_front joins =
+      let a = attached rs1 rs2 free one chain both others o.size s2 (joins o.size (send (length rs1) (links rs1) (one ∷ chain ∷ []) free others o.shared)) in
+      record {
+        size = a.size;
+        shared = a.shared;
+        places = a.places ∙ ap (λ (l : List ℕ). l ++ along (links rs1) chain) o.places ∙ ap (λ (l : List ℕ). ps ++ l) chain_places;
+        held = a.held ∙ ap (λ (l : List (Option X)). l ++ map (item_at rs1) (along (links rs1) chain)) o.held ∙ ap (λ (l : List (Option X)). xs ++ l) chain_held;
+        kept_places = a.kept_places ∙ ap (drop 1) o.kept_places;
+        kept_held = a.kept_held ∙ ap (drop 1) o.kept_held;
+      }
 
 -- record k of a chain freed
 pub removed : {X : Type 0} (rs rs1 rs2 : List (Record X)) (free chain rest one both : Chain) (others : List Chain) (k : ℕ)
@@ -195,7 +188,7 @@ removed {X = X} rs rs1 rs2 free chain rest one both others k small within s1 det
     let n2 : length rs2 ≡ length rs1 = same_length rs1 rs2 s2 in
     let sh1 : Shared (length rs1) (links rs1) (rest ∷ one ∷ free ∷ others) = carried (length rs) (length rs1) (links rs1) (links rs1) (rest ∷ one ∷ free ∷ others) n1 refl det.shared in
     let j : Joined (length rs1) (links rs1) (links rs2) one free both (rest ∷ others) = joins (subst (λ (m : ℕ). m < 2 ^ 32) (sym n1) small) (send (length rs1) (links rs1) (one ∷ free ∷ []) rest others sh1) in
-    let kr : along (links rs2) rest ≡ along (links rs1) rest = ap (λ (l : List (List ℕ)). get_or l 0 []) j.kept in
+    let kr : along (links rs2) rest ≡ along (links rs1) rest = ap (λ (l : List (List ℕ)). slice_index_or l 0 []) j.kept in
     let ko : map (along (links rs2)) others ≡ map (along (links rs)) others = ap (drop 1) j.kept ∙ ap (drop 1) det.kept in
     let ep : along (links rs2) rest ≡ without k (along (links rs) chain) = kr ∙ det.rests in
     let read : (p : ℕ) → item_at rs2 p ≡ item_at rs p = read_same rs rs2 (s2 ∙ s1) in
@@ -253,12 +246,16 @@ released rs rs1 both free chain others small s1 j =
 pub nth-walk : (c k : ℕ) (nx : List ℕ) (s : ℕ) → k < c → nth (walk c nx s) k ≡ Some (follow k nx s)
 nth-walk zero k nx s h = absurd (omega arith)
 nth-walk (suc c) zero nx s h = refl
-nth-walk (suc c) (suc k) nx s h = nth-walk c k nx (get_or nx s 0) (omega arith)
+nth-walk (suc c) (suc k) nx s h = nth-walk c k nx (slice_index nx s) (omega arith)
 
 pub nth_past : {Y : Type 0} (xs : List Y) (k : ℕ) → length xs ≤ k → nth xs k ≡ None
 nth_past [] k h = refl
 nth_past (x ∷ xs) zero h = absurd (omega arith)
 nth_past (x ∷ xs) (suc k) h = nth_past xs k (omega arith)
+
+pub place_read : (o : Option ℕ) (c k : ℕ) (nx : List ℕ) (s : ℕ) → is_some o ≡ nat_lt k c → IfSome o (λ p. p ≡ follow k nx s) → o ≡ nth (walk c nx s) k
+place_read None c k nx s e h = let l = ltb-false k c (sym e) in sym (nth_past (walk c nx s) k (omega (arith, length-walk c nx s)))
+place_read (Some p) c k nx s e h = ap Some h ∙ sym (nth-walk c k nx s (ltb-true k c (sym e)))
 
 pub no_such : {Y : Type 0} (y : Y) → None ≡ Some y → ⊥
 no_such y e = let z : ◌≡◌ {A = ℕ} 0 1 = cc in omega arith
@@ -269,25 +266,25 @@ nth-within (x ∷ xs) zero y e = omega arith
 nth-within (x ∷ xs) (suc k) y e = let h : k < length xs = nth-within xs k y e in omega arith
 
 -- what is read at element k
-pub read_none : {X Y : Type 0} (f : X → Option Y) (xs : List X) (k : ℕ) → nth xs k ≡ None → None ≡ get_or (map f xs) k None
+pub read_none : {X Y : Type 0} (f : X → Option Y) (xs : List X) (k : ℕ) → nth xs k ≡ None → None ≡ slice_index_or (map f xs) k None
 read_none f [] k e = refl
 read_none f (x ∷ xs) zero e = absurd (no_such x (sym e))
 read_none f (x ∷ xs) (suc k) e = read_none f xs k e
 
-pub read_some : {X Y : Type 0} (f : X → Option Y) (xs : List X) (k : ℕ) (x : X) → nth xs k ≡ Some x → f x ≡ get_or (map f xs) k None
+pub read_some : {X Y : Type 0} (f : X → Option Y) (xs : List X) (k : ℕ) (x : X) → nth xs k ≡ Some x → f x ≡ slice_index_or (map f xs) k None
 read_some f [] k y e = absurd (no_such y e)
 read_some f (x ∷ xs) zero y e = let h : y ≡ x = cc in ap f h
 read_some f (x ∷ xs) (suc k) y e = read_some f xs k y e
 
 -- only an element that is there is read
-pub read-within : {X Y : Type 0} (f : X → Option Y) (xs : List X) (k : ℕ) (y : Y) → Some y ≡ get_or (map f xs) k None → k < length xs
+pub read-within : {X Y : Type 0} (f : X → Option Y) (xs : List X) (k : ℕ) (y : Y) → Some y ≡ slice_index_or (map f xs) k None → k < length xs
 read-within f [] k y e = absurd (no_such y (sym e))
 read-within f (x ∷ xs) zero y e = omega arith
 read-within f (x ∷ xs) (suc k) y e = let h : k < length xs = read-within f xs k y e in omega arith
 
 -- ---- each place of a chain has an item
 
-there : {X : Type 0} (rs : List (Record X)) (q : ℕ) → q < length rs → (x : X) × (get_or (map (λ (r : Record X). Some r.item) rs) q None ≡ Some x)
+there : {X : Type 0} (rs : List (Record X)) (q : ℕ) → q < length rs → (x : X) × (slice_index_or (map (λ (r : Record X). Some r.item) rs) q None ≡ Some x)
 there [] q h = absurd (omega arith)
 there (r ∷ rs) zero h = (r.item, refl)
 there (r ∷ rs) (suc q) h = there rs q (omega arith)
@@ -297,10 +294,10 @@ item_there rs zero pos h = absurd (omega arith)
 item_there rs (suc q) pos h = there rs q (omega arith)
 
 pub held_there : {X : Type 0} (rs : List (Record X)) (c : Chain) (cs : List Chain) (k : ℕ) → Shared (length rs) (links rs) (c ∷ cs) → k < c.count
-    → (x : X) × (get_or (map (item_at rs) (along (links rs) c)) k None ≡ Some x)
+    → (x : X) × (slice_index_or (map (item_at rs) (along (links rs) c)) k None ≡ Some x)
 held_there {X = X} rs c cs k sh lt =
     let l : length (along (links rs) c) ≡ c.count = length-walk c.count (links rs) c.first in
-    let g : get_or (along (links rs) c) k 0 ≡ follow k (links rs) c.first = get_d_walk c.count k (links rs) c.first lt in
+    let g : slice_index (along (links rs) c) k ≡ follow k (links rs) c.first = get_d_walk c.count k (links rs) c.first lt in
     let m : 1 ≤ times (follow k (links rs) c.first) (along (links rs) c) = subst (λ (p : ℕ). 1 ≤ times p (along (links rs) c)) g (met_at (along (links rs) c) k (omega arith)) in
     let r : (0 < follow k (links rs) c.first) × (follow k (links rs) c.first ≤ length rs) = in_range (length rs) (links rs) c cs (follow k (links rs) c.first) sh m in
     let i : (x : X) × (item_at rs (follow k (links rs) c.first) ≡ Some x) = item_there rs (follow k (links rs) c.first) r.0 r.1 in
@@ -308,13 +305,13 @@ held_there {X = X} rs c cs k sh lt =
 
 -- so just the elements that a chain has are read
 pub read_just : {X : Type 0} (rs : List (Record X)) (c : Chain) (cs : List Chain) (k : ℕ) (r : Option X) → Shared (length rs) (links rs) (c ∷ cs)
-    → r ≡ get_or (map (item_at rs) (along (links rs) c)) k None → is_some r ≡ ltb k c.count
+    → r ≡ slice_index_or (map (item_at rs) (along (links rs) c)) k None → is_some r ≡ nat_lt k c.count
 read_just {X = X} rs c cs k r sh e = ⊎_elim inner past (cases_lt k c.count)
   where
-    inner : k < c.count → is_some r ≡ ltb k c.count
-    inner lt = let t : (x : X) × (get_or (map (item_at rs) (along (links rs) c)) k None ≡ Some x) = held_there rs c cs k sh lt in ap is_some (e ∙ t.1) ∙ sym (lt-ltb k c.count lt)
+    inner : k < c.count → is_some r ≡ nat_lt k c.count
+    inner lt = let t : (x : X) × (slice_index_or (map (item_at rs) (along (links rs) c)) k None ≡ Some x) = held_there rs c cs k sh lt in ap is_some (e ∙ t.1) ∙ sym (lt-ltb k c.count lt)
 
-    past : c.count ≤ k → is_some r ≡ ltb k c.count
+    past : c.count ≤ k → is_some r ≡ nat_lt k c.count
     past le =
         let l : length (along (links rs) c) ≡ c.count = length-walk c.count (links rs) c.first in
         ap is_some (e ∙ sym (read_none (item_at rs) (along (links rs) c) k (nth_past (along (links rs) c) k (omega arith)))) ∙ sym (le-ltb k c.count le)
@@ -327,17 +324,10 @@ within_count nx c k p e = let h : k < length (along nx c) = nth-within (along nx
 place_is : (nx : List ℕ) (c : Chain) (k p : ℕ) → nth (along nx c) k ≡ Some p → p ≡ follow k nx c.first
 place_is nx c k p e = let w : nth (along nx c) k ≡ Some (follow k nx c.first) = nth-walk c.count k nx c.first (within_count nx c k p e) in cc
 
-next_is : (nx : List ℕ) (c : Chain) (k p v : ℕ) → nth (along nx c) k ≡ Some p → v ≡ get_or nx p 0 → v ≡ follow (suc k) nx c.first
-next_is nx c k p v e ev = ev ∙ ap (λ (q : ℕ). get_or nx q 0) (place_is nx c k p e) ∙ sym (follow_more k nx c.first)
+next_is : (nx : List ℕ) (c : Chain) (k p v : ℕ) → nth (along nx c) k ≡ Some p → v ≡ slice_index nx p → v ≡ follow (suc k) nx c.first
+next_is nx c k p v e ev = ev ∙ ap (λ (q : ℕ). slice_index nx q) (place_is nx c k p e) ∙ sym (follow_more k nx c.first)
 
-pub no_place : (v : ℕ) → v ≡ 0 → None ≡ some_place v
-no_place v z = ap some_place (sym z)
-
-pub some-place : (v : ℕ) → (v ≡ 0 → ⊥) → Some v ≡ some_place v
-some-place zero ne = absurd (ne refl)
-some-place (suc v) ne = refl
-
-pub next_none : (n : ℕ) (nx : List ℕ) (c : Chain) (cs : List Chain) (k p v : ℕ) → Shared n nx (c ∷ cs) → nth (along nx c) k ≡ Some p → v ≡ get_or nx p 0 → v ≡ 0
+next_none : (n : ℕ) (nx : List ℕ) (c : Chain) (cs : List Chain) (k p v : ℕ) → Shared n nx (c ∷ cs) → nth (along nx c) k ≡ Some p → v ≡ slice_index nx p → v ≡ 0
     → None ≡ nth (along nx c) (k + 1)
 next_none n nx c cs k p v sh e ev z = ⊎_elim inner last (cases_lt (k + 1) c.count)
   where
@@ -347,14 +337,14 @@ next_none n nx c cs k p v sh e ev z = ⊎_elim inner last (cases_lt (k + 1) c.co
     inner : k + 1 < c.count → None ≡ nth (along nx c) (k + 1)
     inner lt =
         let s : k + 1 ≡ suc k = omega arith in
-        let g : get_or (along nx c) (k + 1) 0 ≡ v = get_d_walk c.count (k + 1) nx c.first lt ∙ ap (λ (m : ℕ). follow m nx c.first) s ∙ sym (next_is nx c k p v e ev) in
+        let g : slice_index (along nx c) (k + 1) ≡ v = get_d_walk c.count (k + 1) nx c.first lt ∙ ap (λ (m : ℕ). follow m nx c.first) s ∙ sym (next_is nx c k p v e ev) in
         let m : 1 ≤ times v (along nx c) = subst (λ (q : ℕ). 1 ≤ times q (along nx c)) g (met_at (along nx c) (k + 1) (let l' = l in omega arith)) in
         let r : (0 < v) × (v ≤ n) = in_range n nx c cs v sh m in absurd (omega arith)
 
     last : c.count ≤ k + 1 → None ≡ nth (along nx c) (k + 1)
     last le = sym (nth_past (along nx c) (k + 1) (let l' = l in omega arith))
 
-pub next_some : (n : ℕ) (nx : List ℕ) (c : Chain) (cs : List Chain) (k p v : ℕ) → Shared n nx (c ∷ cs) → nth (along nx c) k ≡ Some p → v ≡ get_or nx p 0 → (v ≡ 0 → ⊥)
+next_some : (n : ℕ) (nx : List ℕ) (c : Chain) (cs : List Chain) (k p v : ℕ) → Shared n nx (c ∷ cs) → nth (along nx c) k ≡ Some p → v ≡ slice_index nx p → (v ≡ 0 → ⊥)
     → Some v ≡ nth (along nx c) (k + 1)
 next_some n nx c cs k p v sh e ev ne = ⊎_elim inner last (cases_lt (k + 1) c.count)
   where
@@ -369,6 +359,10 @@ next_some n nx c cs k p v sh e ev ne = ⊎_elim inner last (cases_lt (k + 1) c.c
         let lt : k < c.count = within_count nx c k p e in
         let q : suc k ≡ c.count = omega arith in
         absurd (ne (next_is nx c k p v e ev ∙ ap (λ (m : ℕ). follow m nx c.first) q ∙ sh.ended.0))
+
+pub next_place : (n : ℕ) (nx : List ℕ) (c : Chain) (cs : List Chain) (k p v : ℕ) → Shared n nx (c ∷ cs) → nth (along nx c) k ≡ Some p → v ≡ slice_index nx p → some_place v ≡ nth (along nx c) (k + 1)
+next_place n nx c cs k p zero sh e ev = next_none n nx c cs k p 0 sh e ev refl
+next_place n nx c cs k p (suc v) sh e ev = next_some n nx c cs k p (suc v) sh e ev (λ z. omega arith)
 
 -- ---- an item written
 
@@ -410,7 +404,7 @@ written {X = X} rs rs' free chain others k p x small sh e l s =
     let d : length (slots rs) ≡ length rs + 1 = length-slots rs in
     let n : length rs' ≡ length rs = some-length rs rs' p x s in
     let ep : along (links rs') chain ≡ along (links rs) chain = ap (λ (nx : List ℕ). along nx chain) l in
-    let other : (q : ℕ) → q ≢ p → item_at rs' q ≡ item_at rs q = λ q ne. ap (λ (ys : List (Option X)). get_or ys q None) s ∙ some_other (slots rs) p x q ne in
+    let other : (q : ℕ) → q ≢ p → item_at rs' q ≡ item_at rs q = λ q ne. ap (λ (ys : List (Option X)). slice_index_or ys q None) s ∙ some_other (slots rs) p x q ne in
     let ko : map (along (links rs')) others ≡ map (along (links rs)) others = ap (λ (nx : List ℕ). map (along nx) others) l in
     record {
       size = subst (λ (m : ℕ). m < 2 ^ 32) (sym n) small;
@@ -418,7 +412,7 @@ written {X = X} rs rs' free chain others k p x small sh e l s =
       places = ep;
       held = ap (map (item_at rs')) ep
           ∙ set-held (item_at rs') (item_at rs) (along (links rs) chain) k p (Some x) (first_once (length rs) (links rs) chain (free ∷ others) sh') e
-          (ap (λ (ys : List (Option X)). get_or ys p None) s ∙ some_here (slots rs) p x r.0 (omega arith)) other;
+          (ap (λ (ys : List (Option X)). slice_index_or ys p None) s ∙ some_here (slots rs) p x r.0 (omega arith)) other;
       kept_places = ko;
       kept_held = held_kept (item_at rs') (item_at rs) (links rs) (links rs') others ko (λ q m. other q (unmet p q (flat_map (along (links rs)) others) zo m));
     }
@@ -438,3 +432,14 @@ becomes before after c others ps xs o = record {
 pub leading : {X : Type 0} (pool : Pool X) (c : Chain) (others : List Chain) → Divided pool (c ∷ others)
     → Shared (length pool.records.now) (links pool.records.now) (c ∷ pool.free ∷ others)
 leading pool c others d = bring (length pool.records.now) (links pool.records.now) (pool.free ∷ []) c others d.shared
+
+pub outcome : {X : Type 0} (before after : Pool X) (c : Chain) (others : List Chain) (ps : List ℕ) (xs : List (Option X))
+    → Becomes before after c others ps xs → Outcome before.records.now after.records.now after.free c others ps xs
+outcome before after c others ps xs b = record {
+  size = b.divided.size;
+  shared = b.divided.shared;
+  places = b.stands;
+  held = b.holds;
+  kept_places = b.kept.stand;
+  kept_held = b.kept.hold;
+}

@@ -1,6 +1,6 @@
 -- Chains in a list of links. A record has a place, counted from 1; the link at a place is the place of the record that
 -- follows, and 0 ends a chain. The list has a link 0 at place 0, which no record has.
-use Rattle.std.specs.Prelude.{◌≡◌, ℕ, zero, suc, ◌+◌, ◌<◌, ◌≤◌, cond, List, [], ◌∷◌, ◌++◌, map, length, take, drop, ◌==◌, slice_index}
+use Rattle.std.specs.Prelude.{◌≡◌, ℕ, zero, suc, ◌+◌, ◌<◌, ◌≤◌, if◌then◌else◌, List, [], ◌∷◌, ◌++◌, map, length, take, drop, ◌==◌, slice_index}
 use Rattle.std.specs.List.{flat_map}
 use Rattle.record_pool.specs.declared.chain.Chain.{Chain}
 
@@ -23,7 +23,7 @@ empty_chain = record { first = 0; count = 0 }
 
 -- 1 where a place is p, else 0
 unfoldable pub hit : ℕ → ℕ → ℕ
-hit p x = cond (x == p) 1 0
+hit p x = if x == p then 1 else 0
 
 -- how often p stands among places
 abbrev pub times : ℕ → List ℕ → ℕ

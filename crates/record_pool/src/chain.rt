@@ -2,7 +2,7 @@ ghost use Rattle.std.specs.Prelude.{◌≡◌, ℕ, List, ◌∷◌, ◌==◌};
 ghost use Rattle.record_pool.specs.declared.chain.Chain.{Chain};
 ghost use Rattle.record_pool.specs.Chains.{empty_chain, Shared};
 
-// A chain of records: the place of its first, or 0 where it is empty, and how many there are.
+// A chain of records: the place of its first, or 0 where it is empty, as a record's link is, and how many there are.
 #[derive(Clone, Copy)]
 pub struct Chain {
     pub(crate) first: u32,

@@ -7,35 +7,26 @@ ghost use Rattle.record_pool.specs.Pools.{Outside, links, slots, item_at, some_a
 use crate::chain::Chain;
 use crate::record::Record;
 
-// The index of the record at a place.
+// The index of the record at a place. Writes go by it too: after one through the reference that `get_mut` lends, no element
+// is known.
 fn index_of(len: usize, place: u32) -> Option<usize>
     ensures { MatchOption result (Outside len place) (λ i. (i + 1 ≡ place) × (i < len)) }
 {
-    if place == 0 {
-        return None;
-    }
-    let index = place as usize - 1;
-    if index < len { Some(index) } else { None }
+    (place as usize).checked_sub(1).filter(|i| *i < len)
 }
 
 // The place that a record links to, or 0 where there is no record.
 pub(crate) fn next_of<T: Copy>(records: &[Record<T>], place: u32) -> u32
     ensures { result ≡ slice_index (links records.now) place }
 {
-    match index_of(records.len(), place) {
-        Some(i) => records[i].next,
-        None => 0,
-    }
+    index_of(records.len(), place).map_or(0, |i| records[i].next)
 }
 
 // The item of a record.
 pub(crate) fn item_of<T: Copy>(records: &[Record<T>], place: u32) -> Option<T>
     ensures { result ≡ item_at records.now place }
 {
-    match index_of(records.len(), place) {
-        Some(i) => Some(records[i].item),
-        None => None,
-    }
+    index_of(records.len(), place).map(|i| records[i].item)
 }
 
 // Has a record link to another place.
@@ -66,11 +57,7 @@ pub(crate) fn put<T: Copy>(records: &mut [Record<T>], place: u32, item: T) -> bo
 pub(crate) fn place_of<T: Copy>(records: &[Record<T>], chain: Chain, count: u32) -> u32
     ensures { result ≡ follow count (links records.now) chain.first }
 {
-    let mut place = chain.first;
-    for _k in 0..count {
-        place = next_of(records, place);
-    }
-    place
+    (0..count).fold(chain.first, |place, _| next_of(records, place))
 }
 
 // A chain without one of its records, and that record as a chain of its own.
@@ -83,6 +70,7 @@ pub(crate) struct Parts {
 // Takes record k out of a chain.
 pub(crate) fn detach<T: Copy>(records: &mut [Record<T>], chain: Chain, k: u32) -> Parts
     requires { k < chain.count }
+    ensures first { k ≡ 0 → result.one.first ≡ chain.first }
     ensures slots { slots records.new ≡ slots records.old }
     ensures chains { (others : List Chain) → Shared (length records.old) (links records.old) (chain ∷ others) → Detached (length records.old) (links records.old) (links records.new) chain k result.rest result.one others }
 {
@@ -94,10 +82,7 @@ pub(crate) fn detach<T: Copy>(records: &mut [Record<T>], chain: Chain, k: u32) -
                 first: next,
                 count: chain.count - 1,
             },
-            one: Chain {
-                first: chain.first,
-                count: 1,
-            },
+            one: Chain { count: 1, ..chain },
         };
     }
     let before = place_of(records, chain, k - 1);
@@ -107,8 +92,8 @@ pub(crate) fn detach<T: Copy>(records: &mut [Record<T>], chain: Chain, k: u32) -
     link(records, place, 0);
     Parts {
         rest: Chain {
-            first: chain.first,
             count: chain.count - 1,
+            ..chain
         },
         one: Chain {
             first: place,
@@ -141,8 +126,8 @@ pub(crate) fn chain_all<T: Copy>(records: &mut [Record<T>]) -> Chain
     ensures chains { Shared (length records.old) (links records.new) (result ∷ []) }
 {
     let count = records.len() as u32;
-    for i in 0..count {
-        link(records, i + 1, i);
+    for (i, record) in records.iter_mut().enumerate() {
+        record.next = i as u32;
     }
     Chain {
         first: count,

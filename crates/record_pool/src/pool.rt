@@ -1,4 +1,4 @@
-ghost use Rattle.std.specs.Prelude.{◌≡◌, ℕ, ◌+◌, ◌^◌, ◌<◌, ◌≤◌, List, [], ◌∷◌, ◌++◌, length, drop, is_some, is_ok, if◌then◌else◌, Some as is_item, None as is_none, MatchResult, nat_eq, nat_lt, slice_index, slice_index_or, slice_set};
+ghost use Rattle.std.specs.Prelude.{◌≡◌, ℕ, ◌+◌, ◌^◌, ◌<◌, ◌≤◌, List, [], ◌∷◌, ◌++◌, length, drop, is_some, is_ok, if◌then◌else◌, Some as is_item, None as is_none, IfSome, MatchOption, MatchResult, nat_eq, nat_lt, slice_index, slice_index_or, slice_set};
 ghost use Rattle.answers.specs.declared.Refusal.TheVariants.{Capacity};
 ghost use Rattle.record_pool.specs.declared.chain.Chain.{Chain};
 ghost use Rattle.record_pool.specs.Chains.{empty_chain, without};
@@ -40,11 +40,7 @@ impl<'a, T: Copy> Pool<'a, T> {
     pub fn place(&self, chain: Chain, k: u32) -> Option<u32>
         ensures { result ≡ nth (places self.now chain) k }
     {
-        if k < chain.count {
-            Some(place_of(self.records, chain, k))
-        } else {
-            None
-        }
+        (k < chain.count).then(|| place_of(self.records, chain, k))
     }
 
     // The place that follows a place in its chain.
@@ -53,7 +49,7 @@ impl<'a, T: Copy> Pool<'a, T> {
         ensures chains { (chain : Chain) (others : List Chain) (k : ℕ) → Divided self.now (chain ∷ others) → nth (places self.now chain) k ≡ is_item place → result ≡ nth (places self.now chain) (k + 1) }
     {
         let next = next_of(self.records, place);
-        if next == 0 { None } else { Some(next) }
+        (next != 0).then_some(next)
     }
 
     // The item at a place.
@@ -83,23 +79,29 @@ impl<'a, T: Copy> Pool<'a, T> {
         put(self.records, place, item)
     }
 
+    // Takes the first free record for an item, as a chain of its own.
+    fn take(&mut self, item: T) -> Option<Chain>
+        ensures answer { MatchOption result ((self.old.free.count ≡ 0) × Same self.old self.new) (λ one. (0 < self.old.free.count) × (one.first ≡ self.old.free.first)) }
+        ensures chains { IfSome result (λ one. (others : List Chain) → Divided self.old others → Becomes self.old self.new one others (self.old.free.first ∷ []) (is_item item ∷ [])) }
+    {
+        if self.free.count == 0 {
+            return None;
+        }
+        let Parts { rest, one } = detach(self.records, self.free, 0);
+        put(self.records, one.first, item);
+        self.free = rest;
+        Some(one)
+    }
+
     // Puts an item into a free record, the new last of the chain, and answers its place.
     pub fn push_back(&mut self, chain: &mut Chain, item: T) -> Option<u32>
         ensures answer { result ≡ (if nat_eq self.old.free.count 0 then is_none else is_item self.old.free.first) }
         ensures refused { self.old.free.count ≡ 0 → Same self.old self.new × (chain.new ≡ chain.old) }
         ensures chains { (others : List Chain) → 0 < self.old.free.count → Divided self.old (chain.old ∷ others) → Becomes self.old self.new chain.new others (places self.old chain.old ++ self.old.free.first ∷ []) (held self.old chain.old ++ is_item item ∷ []) }
     {
-        if self.free.count == 0 {
-            return None;
-        }
-        let free = self.free;
-        let front = *chain;
-        let Parts { rest, one } = detach(self.records, free, 0);
-        put(self.records, free.first, item);
-        let joined = join(self.records, front, one);
-        self.free = rest;
-        *chain = joined;
-        Some(free.first)
+        let one = self.take(item)?;
+        *chain = join(self.records, *chain, one);
+        Some(one.first)
     }
 
     // Puts an item into a free record, the new first of the chain, and answers its place.
@@ -108,17 +110,9 @@ impl<'a, T: Copy> Pool<'a, T> {
         ensures refused { self.old.free.count ≡ 0 → Same self.old self.new × (chain.new ≡ chain.old) }
         ensures chains { (others : List Chain) → 0 < self.old.free.count → Divided self.old (chain.old ∷ others) → Becomes self.old self.new chain.new others (self.old.free.first ∷ places self.old chain.old) (is_item item ∷ held self.old chain.old) }
     {
-        if self.free.count == 0 {
-            return None;
-        }
-        let free = self.free;
-        let back = *chain;
-        let Parts { rest, one } = detach(self.records, free, 0);
-        put(self.records, free.first, item);
-        let joined = join(self.records, one, back);
-        self.free = rest;
-        *chain = joined;
-        Some(free.first)
+        let one = self.take(item)?;
+        *chain = join(self.records, one, *chain);
+        Some(one.first)
     }
 
     // Takes record k out of a chain and frees it; answers its item.
@@ -128,11 +122,9 @@ impl<'a, T: Copy> Pool<'a, T> {
         ensures chains { (others : List Chain) → k < chain.old.count → Divided self.old (chain.old ∷ others) → Becomes self.old self.new chain.new others (without k (places self.old chain.old)) (without k (held self.old chain.old)) }
     {
         let from = *chain;
-        let free = self.free;
         let item = self.get(from, k)?;
         let Parts { rest, one } = detach(self.records, from, k);
-        let joined = join(self.records, one, free);
-        self.free = joined;
+        self.free = join(self.records, one, self.free);
         *chain = rest;
         Some(item)
     }
@@ -152,13 +144,11 @@ impl<'a, T: Copy> Pool<'a, T> {
         ensures refused { chain.old.count ≤ k → Same self.old self.new × (chain.new ≡ chain.old) }
         ensures chains { (others : List Chain) → k < chain.old.count → Divided self.old (chain.old ∷ others) → Becomes self.old self.new chain.new others (to_back k (places self.old chain.old)) (to_back k (held self.old chain.old)) }
     {
-        let from = *chain;
-        if k >= from.count {
+        if k >= chain.count {
             return false;
         }
-        let Parts { rest, one } = detach(self.records, from, k);
-        let joined = join(self.records, rest, one);
-        *chain = joined;
+        let Parts { rest, one } = detach(self.records, *chain, k);
+        *chain = join(self.records, rest, one);
         true
     }
 
@@ -167,10 +157,7 @@ impl<'a, T: Copy> Pool<'a, T> {
         ensures empty { chain.new ≡ empty_chain }
         ensures chains { (others : List Chain) → Divided self.old (chain.old ∷ others) → Becomes self.old self.new chain.new others [] [] }
     {
-        let all = *chain;
-        let free = self.free;
-        let joined = join(self.records, all, free);
-        self.free = joined;
+        self.free = join(self.records, *chain, self.free);
         *chain = Chain::new();
     }
 }

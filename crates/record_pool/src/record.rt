@@ -1,6 +1,7 @@
 ghost use Rattle.std.specs.Prelude.{◌≡◌};
 
-// An item, and the place of the record that follows in its chain.
+// An item, and the place of the record that follows in its chain. The lent memory is fixed: a place is a `u32` with 0 for
+// none, since an `Option<u32>` takes 8 bytes, not 4.
 #[derive(Clone, Copy)]
 pub struct Record<T> {
     pub(crate) next: u32,

@@ -1,7 +1,6 @@
 -- Differences of bytes that are joined.
-use Rattle.std.proofs.Common.{◌≡◌, ℕ, ◌+◌, List, length, get_or, sym, ap, ◌∙◌, arith, below_more}
+use Rattle.std.proofs.Common.{◌≡◌, ℕ, ◌+◌, List, get_or, sym, ap, ◌∙◌, arith, below_more}
 use lib.Bits.{bit_or, bit_xor, or_add_and, and_le_l, and_le_r, xor_assoc, xor_self, xor_zero_l, xor_zero_r, or_zero_l}
-use Rattle.std.proofs.lemmas.List.{ext_get_or}
 use Rattle.sealing.specs.Sealing.{SameTo}
 
 or_none : (a b : ℕ) → bit_or a b ≡ 0 → (a ≡ 0) × (b ≡ 0)
@@ -24,7 +23,3 @@ module _ (xs ys : List ℕ) (i joined : ℕ) (inv : (joined ≡ 0 → SameTo i x
         let x : bit_xor (get_or xs i 0) (get_or ys i 0) ≡ 0 = ap (λ z. bit_xor z (get_or ys i 0)) (s i (omega arith)) ∙ xor_self (get_or ys i 0) in
         ap (λ z. bit_or z (bit_xor (get_or xs i 0) (get_or ys i 0))) d ∙ or_zero_l (bit_xor (get_or xs i 0) (get_or ys i 0)) ∙ x,
   )
-
--- the same in all bytes
-pub same_all : (xs ys : List ℕ) → length xs ≡ 16 → length ys ≡ 16 → SameTo 16 xs ys → xs ≡ ys
-same_all xs ys l m s = ext_get_or 0 xs ys (l ∙ sym m) (λ j h. s j (omega arith))

@@ -4,14 +4,14 @@ use Rattle.std.proofs.lemmas.List.{take_at, drop_at, take-append-drop}
 use Rattle.answers.specs.declared.Cause.TheVariants.{Unopened, Undecodable}
 use Rattle.answers.specs.declared.Fault.{Fault}
 use Rattle.wire.specs.Numbers.{from_little_endian}
-use Rattle.wire.specs.Content.{Content, encode_content, decode_content}
+use Rattle.wire.specs.declared.types.TokenPayload.{TokenPayload}
+use Rattle.wire.specs.Content.{encode_content, decode_content}
 use Rattle.wire.proofs.Numbers.{little_back}
 use Rattle.wire.proofs.Contents.{back, short}
 use Rattle.wire.proofs.Faithful.{apart, same_ok, then_ok}
 use Rattle.sealing.specs.Sealing.{Image, Opening, Undoes}
 use Rattle.sealing.specs.Tokens.{nonce_bytes, sealed_with, sealed_of, nonce_of, low_of, sized, decoded, unsealed, says}
-use Rattle.sealing.specs.Laws.{NoTwoContentsHaveOneImage, AnImageFixesWhatOpens, AWrittenTokenSaysItsContent, OnlyWhatIsSealedIsRead}
-use Rattle.sealing.specs.Openings.{same_some}
+use Rattle.sealing.specs.Laws.{AnImageFixesWhatOpens, AWrittenTokenSaysItsContent, OnlyWhatIsSealedIsRead}
 use Rattle.sealing.proofs.Tokening.{says_opened, well_sized}
 
 agree : (image : Image) (o o' : Opening) → Undoes image o → Undoes image o' → (n b : List ℕ) (r r' : Option (List ℕ)) → o n b ≡ r → o' n b ≡ r' → r ≡ r'
@@ -21,9 +21,6 @@ agree image o o' u u' n b None (Some c) p q = let k = u'.only n b c q in sym p �
 
 pub fixes : AnImageFixesWhatOpens
 fixes image o o' u u' n b = agree image o o' u u' n b (o n b) (o' n b) refl refl
-
-pub two_apart : (image : Image) (opened : Opening) → Undoes image opened → NoTwoContentsHaveOneImage image
-two_apart image opened u n c d h k e = same_some c d (sym (u.opens n c h) ∙ ap (opened n) e ∙ u.opens n d k)
 
 sixteen : (low high : ℕ) → length (nonce_bytes low high) ≡ 16
 unfolding nonce_bytes
@@ -63,11 +60,11 @@ says_written image opened longer u low high content h sound =
       long = long;
     }
 
-decoded_ok : (r : Result Content Fault) (c : Content) → decoded r ≡ Ok c → r ≡ Ok c
+decoded_ok : (r : Result TokenPayload Fault) (c : TokenPayload) → decoded r ≡ Ok c → r ≡ Ok c
 decoded_ok (Ok x) c h = ap Ok (same_ok x c h)
 decoded_ok (Err f) c h = apart (Undecodable f) c h
 
-unsealed_ok : (o : Option (List ℕ)) (c : Content) → unsealed o ≡ Ok c → (bs : List ℕ) × (o ≡ Some bs) × (decode_content bs ≡ Ok c)
+unsealed_ok : (o : Option (List ℕ)) (c : TokenPayload) → unsealed o ≡ Ok c → (bs : List ℕ) × (o ≡ Some bs) × (decode_content bs ≡ Ok c)
 unsealed_ok (Some bs) c h = (bs, refl, decoded_ok (decode_content bs) c h)
 unsealed_ok None c h = apart Unopened c h
 

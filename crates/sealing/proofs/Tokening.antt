@@ -1,17 +1,19 @@
 -- From the steps of reading and writing a token to what it says.
-use Rattle.std.proofs.Common.{◌≡◌, ℕ, ◌+◌, ◌-◌, ◌≤◌, List, ◌++◌, length, take, drop, Ok, Err, Option, Result, sym, ap, ◌∙◌, arith, length-append}
+use Rattle.std.proofs.Common.{◌≡◌, ℕ, ◌+◌, ◌≤◌, List, ◌++◌, length, take, drop, Ok, Err, Option, Result, sym, ap, ◌∙◌, arith, length-append}
 use borrow.Rule.Slice.PartMut.{put_mid}
-use Rattle.std.proofs.lemmas.List.{take_at, take_rest}
+use Rattle.std.proofs.lemmas.List.{take_at}
 use Rattle.std.proofs.lemmas.Bool.{le-ltb, or_from, cond-false}
 use Rattle.answers.specs.declared.Cause.{Cause}
 use Rattle.answers.specs.declared.Cause.TheVariants.{Undecodable}
 use Rattle.answers.specs.declared.Fault.{Fault}
 use Rattle.wire.specs.Numbers.{from_little_endian}
-use Rattle.wire.specs.Content.{Content}
+use Rattle.wire.specs.declared.types.TokenPayload.{TokenPayload}
 use Rattle.answers.specs.Buffers.{fronted, pasted}
 use Rattle.answers.proofs.Buffers.{put_pasted, pasted-pasted, pasted_front}
 use Rattle.sealing.specs.declared.token.Token.{Token}
-use Rattle.sealing.specs.Sealing.{Image, Opening}
+use Rattle.sealing.specs.Sealing.{Image, Opening, Opens, content_in, opened_in}
+use Rattle.wire.proofs.Faithful.{same_ok}
+use Rattle.answers.specs.declared.Refusal.{Refusal}
 use Rattle.sealing.specs.Tokens.{sized, sealed_of, nonce_of, low_of, decoded, unsealed, says, content_read}
 
 pub well_sized : (t : List ℕ) → 16 ≤ length t → length t ≤ 81 → sized t ≡ Ok tt
@@ -20,30 +22,32 @@ well_sized t least most =
     ∙ cond-false _ _ _ (or_from _ _ (le-ltb (length t) 16 least) (le-ltb 81 (length t) most))
 
 module _ (opened : Opening) (t : List ℕ) where
-  pub says_stops : (e : Cause) → Err e ≡ sized t → Err e ≡ says opened t
+  pub says_stops : (e : Cause) → sized t ≡ Err e → says opened t ≡ Err e
   unfolding says
-  says_stops e h = let k = sym h in rw k
+  says_stops e h = rw h
 
   pub says_opened : Ok tt ≡ sized t → says opened t ≡ unsealed (opened (nonce_of t) (sealed_of t))
   unfolding says
   says_opened h = let k = sym h in rw k
 
-  -- the nonce and the sealed bytes as they were copied and cut
-  module _ (nonce : List ℕ) (cut : nonce ≡ take (length t - (length t - 16)) (drop (length t - 16) t)) where
-    the_nonce : nonce ≡ nonce_of t
-    the_nonce = cut ∙ take_rest t (length t - 16)
+  -- the parts that a token was cut into, and what they opened to
+  pub says_of : {sealed nonce : List ℕ} → (sized t ≡ Ok tt) × ((sealed ≡ sealed_of t) × (nonce ≡ nonce_of t))
+      → (o : Option (List ℕ)) → o ≡ opened nonce sealed → says opened t ≡ unsealed o
+  says_of {sealed} {nonce} p o h =
+      says_opened (sym p.0) ∙ ap unsealed (ap (λ y. opened y (sealed_of t)) (sym p.1.1) ∙ ap (opened nonce) (sym p.1.0) ∙ sym h)
 
-    pub says_of : (o : Option (List ℕ)) → Ok tt ≡ sized t → o ≡ opened nonce (take (length t - 16 - 0) t) → says opened t ≡ unsealed o
-    says_of o s h =
-        let z : length t - 16 - 0 ≡ length t - 16 = omega arith in
-        says_opened s ∙ ap unsealed (ap (λ y. opened y (sealed_of t)) (sym the_nonce) ∙ ap (λ y. opened nonce (take y t)) (sym z) ∙ sym h)
+  pub low_is : {nonce : List ℕ} → nonce ≡ nonce_of t → (low : ℕ) → low ≡ from_little_endian (take 8 nonce) → low ≡ low_of t
+  unfolding low_of
+  low_is p low h = h ∙ ap (λ y. from_little_endian (take 8 y)) p
 
-    pub low_is : (low : ℕ) → low ≡ from_little_endian (take 8 nonce) → low ≡ low_of t
-    unfolding low_of
-    low_is low h = h ∙ ap (λ y. from_little_endian (take 8 y)) the_nonce
+-- what was opened into working bytes enough
+pub opened_enough : {opening : List ℕ → Option (List ℕ)} {sealed working working' : List ℕ} {r : Result (Option ℕ) Refusal} (o : Option ℕ)
+    → Opens opening sealed working working' r → 96 ≤ length working → r ≡ Ok o → content_in working' o ≡ opening sealed
+opened_enough {working = working} {working' = working'} o h enough e =
+    same_ok _ _ (ap (opened_in working') (sym e) ∙ h.answer ∙ cond-false _ _ _ (le-ltb (length working) 96 enough))
 
 -- a fault of the content is the cause, unaltered
-pub undecodable : (r : Result Token Cause) (f : Fault) (content : Result Content Fault) → r ≡ Err (Undecodable f) → Err f ≡ content → content_read r ≡ decoded content
+pub undecodable : (r : Result Token Cause) (f : Fault) (content : Result TokenPayload Fault) → r ≡ Err (Undecodable f) → Err f ≡ content → content_read r ≡ decoded content
 undecodable r f content e h = ap content_read e ∙ ap decoded h
 
 -- the steps of writing: the content's bytes into the working bytes, their image into the buffer, and the nonce behind it

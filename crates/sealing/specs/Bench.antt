@@ -1,12 +1,12 @@
 -- The bench scheme: it hides nothing, and sixteen check bytes end what it seals.
-use Rattle.std.specs.Prelude.{ℕ, suc, ◌+◌, ◌-◌, ◌%◌, cond, List, [], ◌∷◌, ◌++◌, map, length, take, ◌==◌, slice_index}
+use Rattle.std.specs.Prelude.{ℕ, suc, ◌+◌, ◌-◌, ◌%◌, List, [], ◌∷◌, ◌++◌, map, length, take, ◌==◌, slice_index, if◌then◌else◌}
 use Rattle.std.specs.List.{range_with_len}
 use Rattle.sealing.specs.Sealing.{Image, Opening, open_by}
 
 -- the sum of the bytes whose place, counted from at, leaves j modulo sixteen
 unfoldable pub column : ℕ → ℕ → List ℕ → ℕ
 column at j [] = 0
-column at j (b ∷ bs) = cond (at % 16 == j) b 0 + column (suc at) j bs
+column at j (b ∷ bs) = (if at % 16 == j then b else 0) + column (suc at) j bs
 
 -- the check byte j
 unfoldable pub check_byte : List ℕ → List ℕ → List ℕ → ℕ → ℕ

@@ -1,6 +1,7 @@
 -- The laws of sealing schemes and of tokens.
 use Rattle.std.specs.Prelude.{◌≡◌, ℕ, ◌+◌, ◌<◌, ◌≤◌, List, ◌++◌, length, Ok}
-use Rattle.wire.specs.Content.{Content, encode_content, decode_content}
+use Rattle.wire.specs.declared.types.TokenPayload.{TokenPayload}
+use Rattle.wire.specs.Content.{encode_content, decode_content}
 use Rattle.wire.specs.Laws.{Sound}
 use Rattle.sealing.specs.Sealing.{Image, Opening, Undoes}
 use Rattle.sealing.specs.Tokens.{nonce_of, low_of, token_for, says}
@@ -14,17 +15,17 @@ abbrev pub AnImageFixesWhatOpens : Type 0
 AnImageFixesWhatOpens = (image : Image) (o o' : Opening) → Undoes image o → Undoes image o' → (n b : List ℕ) → o n b ≡ o' n b
 
 -- a token that is written of a content says that content, and has the low half of its nonce
-pub record SaysItsContent (image : Image) (opened : Opening) (low high : ℕ) (content : Content) : Type 0 where
+pub record SaysItsContent (image : Image) (opened : Opening) (low high : ℕ) (content : TokenPayload) : Type 0 where
   pub said : says opened (token_for image low high content) ≡ Ok content
   pub half : low_of (token_for image low high content) ≡ low
   pub long : length (token_for image low high content) ≡ length (encode_content content) + 32
 
 abbrev pub AWrittenTokenSaysItsContent : Image → Opening → Type 0
 AWrittenTokenSaysItsContent image opened =
-    (low high : ℕ) (content : Content) → low < 18446744073709551616 → Sound content → SaysItsContent image opened low high content
+    (low high : ℕ) (content : TokenPayload) → low < 18446744073709551616 → Sound content → SaysItsContent image opened low high content
 
 -- a token that says a content is the image of that content's bytes, and its nonce
 abbrev pub OnlyWhatIsSealedIsRead : Image → Opening → Type 0
 OnlyWhatIsSealedIsRead image opened =
-    (t : List ℕ) (content : Content) → says opened t ≡ Ok content
+    (t : List ℕ) (content : TokenPayload) → says opened t ≡ Ok content
     → (bs : List ℕ) × (t ≡ image (nonce_of t) bs ++ nonce_of t) × (decode_content bs ≡ Ok content)

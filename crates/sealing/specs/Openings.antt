@@ -1,5 +1,5 @@
 -- An image leaves no choice of what opens.
-use Rattle.std.specs.Prelude.{◌≡◌, ℕ, ◌-◌, ◌≤◌, Bool, true, false, cond, not, ◌||◌, ltb, List, ◌++◌, length, take, drop, Some, None, Ok, Option, ◌≢◌, nat_lt, refl}
+use Rattle.std.specs.Prelude.{◌≡◌, ℕ, ◌-◌, ◌≤◌, Bool, true, false, cond, not, ◌||◌, nat_lt, List, ◌++◌, length, take, drop, Some, None, Ok, Option, ◌≢◌, refl}
 use Rattle.std.proofs.Common.{sym, ap, ◌∙◌, arith}
 use Rattle.std.proofs.lemmas.Bool.{le-ltb, ltb-false, or_from, or_parts, cond-false, not-false}
 use Rattle.std.proofs.lemmas.Slice.Eq.{bytes_eq-Decides}
@@ -20,7 +20,7 @@ pub undone : (image try : Image) → ((n c : List ℕ) → length c ≤ 64 → t
 undone image try back = record {
   opens = λ n c h.
       let e : try n (image n c) ≡ c = back n c h in
-      let l : ltb 64 (length (try n (image n c))) ≡ false = ap (λ z. ltb 64 (length z)) e ∙ le-ltb 64 (length c) h in
+      let l : nat_lt 64 (length (try n (image n c))) ≡ false = ap (λ z. nat_lt 64 (length z)) e ∙ le-ltb 64 (length c) h in
       let s : not (bytes_eq (image n (try n (image n c))) (image n c)) ≡ false = ap not ((bytes_eq-Decides _ _).1 (ap (image n) e)) in
       cond-false _ _ _ (or_from _ _ l s) ∙ ap Some e;
   only = λ n b c h.

@@ -1,5 +1,5 @@
 -- What it is to seal and to open.
-use Rattle.std.specs.Prelude.{◌≡◌, ℕ, ◌+◌, ◌<◌, ◌≤◌, false, cond, not, ◌||◌, List, length, take, drop, is_ok, Some, None, Ok, Err, Option, Result, nat_lt, slice_index}
+use Rattle.std.specs.Prelude.{◌≡◌, ℕ, ◌+◌, ◌<◌, ◌≤◌, false, not, ◌||◌, List, length, take, drop, is_ok, Some, None, Ok, Err, Option, Result, nat_lt, slice_index, if◌then◌else◌}
 use Rattle.std.specs.Str.{bytes_eq}
 use Rattle.answers.specs.declared.Refusal.{Refusal}
 use Rattle.answers.specs.declared.Refusal.TheVariants.{SmallBuffer}
@@ -14,12 +14,12 @@ Opening = List ℕ → List ℕ → Option (List ℕ)
 
 -- what sealing answers, by the lengths of content, working bytes and buffer
 abbrev pub sealing : ℕ → ℕ → ℕ → Result ℕ Refusal
-sealing len working out = cond (nat_lt 64 len || (nat_lt working 96 || nat_lt out (len + 16))) (Err SmallBuffer) (Ok (len + 16))
+sealing len working out = if nat_lt 64 len || (nat_lt working 96 || nat_lt out (len + 16)) then Err SmallBuffer else Ok (len + 16)
 
 -- a call of seal: the image of the content stands at the front of the buffer; refused, nothing was written
 pub record Seals (image : List ℕ → List ℕ) (len : ℕ) (working working' out out' : List ℕ) (r : Result ℕ Refusal) : Type 0 where
   pub answer : r ≡ sealing len (length working) (length out)
-  pub after : out' ≡ cond (is_ok r) (fronted (image (take len working)) out) out
+  pub after : out' ≡ (if is_ok r then fronted (image (take len working)) out else out)
   pub kept : is_ok r ≡ false → working' ≡ working
   pub past : drop 96 working' ≡ drop 96 working
 
@@ -39,14 +39,14 @@ AtMost k (Err e) = Unit {0}
 
 -- a call of open: what was opened stands at the front of the working bytes; refused, nothing was written
 pub record Opens (opened : List ℕ → Option (List ℕ)) (sealed working working' : List ℕ) (r : Result (Option ℕ) Refusal) : Type 0 where
-  pub answer : opened_in working' r ≡ cond (nat_lt (length working) 96) (Err SmallBuffer) (Ok (opened sealed))
+  pub answer : opened_in working' r ≡ (if nat_lt (length working) 96 then Err SmallBuffer else Ok (opened sealed))
   pub within : AtMost 64 r
   pub kept : is_ok r ≡ false → working' ≡ working
   pub past : drop 96 working' ≡ drop 96 working
 
 -- what opens under an image, by a content to try: the one whose image the bytes are
 abbrev pub open_by : Image → (List ℕ → List ℕ → List ℕ) → Opening
-open_by image try n b = cond (nat_lt 64 (length (try n b)) || not (bytes_eq (image n (try n b)) b)) None (Some (try n b))
+open_by image try n b = if nat_lt 64 (length (try n b)) || not (bytes_eq (image n (try n b)) b) then None else Some (try n b)
 
 -- equal in the first k bytes
 abbrev pub SameTo : ℕ → List ℕ → List ℕ → Type 0

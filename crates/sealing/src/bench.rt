@@ -4,6 +4,7 @@ ghost use Rattle.sealing.specs.Checking.{length_image, bench_undoes};
 
 use crate::{MAX_CONTENT, SealingScheme, TAG, WORKING, same_tag};
 use answers::Refusal;
+use std::array;
 
 // A scheme for the bench: it hides nothing and keeps nobody out.
 #[derive(Clone, Copy)]
@@ -23,19 +24,15 @@ impl BenchScheme {
 fn sum(a: &[u8; 16], b: &[u8; 16]) -> [u8; 16]
     ensures { (j : ℕ) → j < 16 → slice_index result j ≡ (slice_index a.now j + slice_index b.now j) % 256 }
 {
-    let mut sums = [0; 16];
-    for j in 0..16 {
-        sums[j] = a[j].wrapping_add(b[j]);
-    }
-    sums
+    array::from_fn(|j| a[j].wrapping_add(b[j]))
 }
 
 fn check_bytes(key: &[u8; 16], nonce: &[u8; 16], content: &[u8]) -> [u8; 16]
     ensures { result ≡ check_bytes key.now nonce.now content.now }
 {
     let mut sums = sum(key, nonce);
-    for i in 0..content.len() {
-        sums[i % 16] = sums[i % 16].wrapping_add(content[i]);
+    for (i, byte) in content.iter().enumerate() {
+        sums[i % 16] = sums[i % 16].wrapping_add(*byte);
     }
     sums
 }

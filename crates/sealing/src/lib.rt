@@ -15,7 +15,7 @@ mod working;
 use answers::Refusal;
 pub use bench::BenchScheme;
 pub use tag::same_tag;
-pub use token::{Nonce, Token, Unsealed};
+pub use token::{Nonce, Token};
 pub use tokens::{MAX_TOKEN, decode_token, encode_token};
 
 // The longest content that a scheme takes, and how much longer its image is.
@@ -35,6 +35,7 @@ pub trait SealingScheme {
     ghost opened: { Self → Opening };
 
     // Seals the content that stands in the first `len` working bytes, into the front of `out`.
+    // It is sealed where it was written, so its length comes beside them.
     // The rest of the first 96 working bytes is the scheme's to use.
     fn seal(
         &self,

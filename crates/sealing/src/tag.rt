@@ -10,8 +10,8 @@ fn differences(bytes: &[u8], tag: &[u8; 16]) -> u8
     ensures same { SameTo 16 bytes.now tag.now → result ≡ 0 }
 {
     let mut joined = 0;
-    for j in 0..TAG {
-        joined |= bytes[j] ^ tag[j];
+    for (j, byte) in bytes.iter().enumerate() {
+        joined |= *byte ^ tag[j];
     }
     joined
 }

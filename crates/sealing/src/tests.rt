@@ -20,8 +20,8 @@ const TOKEN: [u8; 46] = [
 fn cause_of(token: &[u8]) -> Option<Cause> {
     let mut working = [0; WORKING];
     match decode_token(&BenchScheme::new(KEY), token, &mut working) {
-        Ok(said) => said.err(),
-        Err(_) => None,
+        Ok(Err(cause)) => Some(cause),
+        _ => None,
     }
 }
 
@@ -84,7 +84,7 @@ fn small_buffers(rt: HostRuntime) -> Result<(), Fail> {
     };
     assert_eq!(rt; back.refusal, Refusal::SmallBuffer);
     assert_eq!(rt;
-        encode_token(&scheme, &VALIDATION, back.nonce, &mut working, &mut out).ok(),
+        encode_token(&scheme, &VALIDATION, back.back, &mut working, &mut out).ok(),
         Some(46)
     );
     assert_eq!(rt;

@@ -1,4 +1,3 @@
-use answers::Refusal;
 use wire::TokenPayload;
 
 // A drawn nonce: 128 random bits for one token. It cannot be copied, and writing a token uses it up.
@@ -13,11 +12,4 @@ pub struct Nonce {
 pub struct Token {
     pub payload: TokenPayload,
     pub low: u64,
-}
-
-// A token that was not written, with the nonce given back.
-#[derive(Drop)]
-pub struct Unsealed {
-    pub refusal: Refusal,
-    pub nonce: Nonce,
 }

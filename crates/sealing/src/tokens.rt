@@ -1,14 +1,13 @@
-ghost use Rattle.std.specs.Prelude.{◌≡◌, ◌+◌, ◌≤◌, length, take, drop, IfSome, OnOk};
+ghost use Rattle.std.specs.Prelude.{◌≡◌, ◌+◌, ◌≤◌, length, take, replicate, MatchResult, Ok, Err};
 ghost use Rattle.answers.specs.Buffers.{fronted};
-ghost use Rattle.wire.specs.Content.{encode_content, meant};
+ghost use Rattle.wire.specs.Content.{encode_content};
 ghost use Rattle.wire.specs.Numbers.{from_little_endian};
-ghost use Rattle.sealing.specs.Sealing.{content_in};
-ghost use Rattle.sealing.specs.Tokens.{nonce_bytes, sized, sealed_with, token_for, wiped, TokenRead, TokenWritten, Read, Wrote};
+ghost use Rattle.sealing.specs.Tokens.{nonce_bytes, sealed_of, nonce_of, sized, sealed_with, token_for, TokenRead, TokenWritten, Read, Wrote};
 
-use crate::token::{Nonce, Token, Unsealed};
+use crate::token::{Nonce, Token};
 use crate::working::Working;
 use crate::{SealingScheme, WORKING};
-use answers::{Cause, Refusal};
+use answers::{Cause, Refusal, Refused};
 use wire::TokenPayload;
 
 // The bytes of a nonce, and the longest token.
@@ -24,77 +23,52 @@ impl Nonce {
         Nonce { low, high }
     }
 
-    fn to_bytes(&self) -> [u8; 16]
+    fn to_bytes(&self) -> [u8; NONCE]
         ensures { result ≡ nonce_bytes self.now.low self.now.high }
     {
-        let mut bytes = [0; 16];
+        let mut bytes = [0; NONCE];
         bytes[0..8].copy_from_slice(&self.low.to_le_bytes());
         bytes[8..16].copy_from_slice(&self.high.to_le_bytes());
         bytes
     }
 }
 
-fn low_half(nonce: &[u8; 16]) -> u64
+fn low_half(nonce: &[u8; NONCE]) -> u64
     ensures { result ≡ from_little_endian (take 8 nonce.now) }
 {
-    let mut low = [0; 8];
-    low.copy_from_slice(&nonce[0..8]);
-    u64::from_le_bytes(low)
+    u64::from_le_bytes(*nonce.first_chunk::<8>().unwrap())
 }
 
-// Opens into working bytes that are enough, so that the scheme refuses nothing.
-fn open_into<S: SealingScheme>(
-    scheme: &S,
-    nonce: &[u8; 16],
-    sealed: &[u8],
-    working: &mut [u8],
-) -> Option<usize>
-    requires { 96 ≤ length working.old }
-    ensures content { content_in working.new result ≡ S.SealingScheme.opened scheme.now nonce.now sealed.now }
-    ensures bound { IfSome result (λ n. n ≤ 64) }
-    ensures past { drop 96 working.new ≡ drop 96 working.old }
-{
-    match scheme.open(nonce, sealed, working) {
-        Ok(len) => len,
-        Err(_) => unreachable(),
-    }
-}
-
-// A token has 16 to 81 bytes.
-fn check_length(token: &[u8]) -> Result<(), Cause>
-    ensures value { result ≡ sized token.now }
-    ensures bound { OnOk result (16 ≤ length token.now) }
+// The sealed bytes of a token of 16 to 81 bytes, and the nonce behind them.
+fn parts(token: &[u8]) -> Result<(&[u8], &[u8; NONCE]), Cause>
+    ensures { MatchResult result (λ p. (sized token.now ≡ Ok tt) × ((p.0.now ≡ sealed_of token.now) × (p.1.now ≡ nonce_of token.now))) (λ e. sized token.now ≡ Err e) }
 {
     if token.is_empty() {
         return Err(Cause::EmptyToken);
     }
-    if token.len() < NONCE || token.len() > MAX_TOKEN {
+    if token.len() > MAX_TOKEN {
         return Err(Cause::Unopened);
     }
-    Ok(())
+    token.split_last_chunk::<NONCE>().ok_or(Cause::Unopened)
 }
 
-// Opens the token into the working bytes and decodes what stands there; those past the first 96 stay.
+// Opens the token into the working bytes and decodes what stands there. A scheme refuses nothing here, as it gets working
+// bytes enough.
 fn read_token<S: SealingScheme>(
     scheme: &S,
     token: &[u8],
-    working: &mut [u8],
+    working: &mut [u8; WORKING],
 ) -> Result<Token, Cause>
-    requires { 96 ≤ length working.old }
-    ensures read { TokenRead (S.SealingScheme.opened scheme.now) token.now result }
-    ensures past { drop 96 working.new ≡ drop 96 working.old }
+    ensures { TokenRead (S.SealingScheme.opened scheme.now) token.now result }
 {
-    check_length(token)?;
-    let at = token.len() - NONCE;
-    let mut nonce = [0; NONCE];
-    nonce.copy_from_slice(&token[at..]);
-    let Some(len) = open_into(scheme, &nonce, &token[0..at], working) else {
+    let (sealed, nonce) = parts(token)?;
+    let Some(len) = scheme.open(nonce, sealed, working).unwrap() else {
         return Err(Cause::Unopened);
     };
     let payload = TokenPayload::decode(&working[0..len])?;
     Ok(Token {
         payload,
-        low: low_half(&nonce),
+        low: low_half(nonce),
     })
 }
 
@@ -102,11 +76,10 @@ fn read_token<S: SealingScheme>(
 fn open_token<S: SealingScheme>(
     scheme: &S,
     token: &[u8],
-    working: &mut [u8],
+    working: &mut [u8; WORKING],
 ) -> Result<Token, Cause>
-    requires { 96 ≤ length working.old }
     ensures read { TokenRead (S.SealingScheme.opened scheme.now) token.now result }
-    ensures blank { working.new ≡ wiped working.old }
+    ensures blank { working.new ≡ replicate 96 0 }
 {
     let guard = Working(working);
     read_token(scheme, token, guard.0)
@@ -121,56 +94,48 @@ pub fn decode_token<S: SealingScheme>(
 ) -> Result<Result<Token, Cause>, Refusal>
     ensures { Read (S.SealingScheme.opened scheme.now) token.now working.old working.new result }
 {
-    if working.len() < WORKING {
+    let Some(working) = working.first_chunk_mut::<WORKING>() else {
         return Err(Refusal::SmallBuffer);
-    }
+    };
     Ok(open_token(scheme, token, working))
 }
 
-// Encodes into working bytes that are enough.
-fn encode_into(payload: &TokenPayload, working: &mut [u8]) -> usize
-    requires { 96 ≤ length working.old }
-    ensures len { result ≡ length (encode_content (meant payload.now)) }
+// Encodes into the working bytes, which have room for every content.
+fn encode_into(payload: &TokenPayload, working: &mut [u8; WORKING]) -> usize
+    ensures len { result ≡ length (encode_content payload.now) }
     ensures bound { result ≤ 49 }
-    ensures after { working.new ≡ fronted (encode_content (meant payload.now)) working.old }
+    ensures after { working.new ≡ fronted (encode_content payload.now) working.old }
 {
     wire::payloads_are_sound(payload);
-    match payload.encode(working) {
-        Ok(len) => len,
-        Err(_) => unreachable(),
-    }
+    payload.encode(working).unwrap()
 }
 
-// Seals with working bytes and room that are enough.
+// Seals with room enough, so that the scheme refuses nothing.
 fn seal_into<S: SealingScheme>(
     scheme: &S,
-    nonce: &[u8; 16],
+    nonce: &[u8; NONCE],
     len: usize,
-    working: &mut [u8],
+    working: &mut [u8; WORKING],
     out: &mut [u8],
 ) -> usize
-    requires { (len ≤ 64) × ((96 ≤ length working.old) × (len + 16 ≤ length out.old)) }
+    requires short { len ≤ 64 }
+    requires room { len + 16 ≤ length out.old }
     ensures len { result ≡ len + 16 }
     ensures after { out.new ≡ fronted (S.SealingScheme.image scheme.now nonce.now (take len working.old)) out.old }
-    ensures past { drop 96 working.new ≡ drop 96 working.old }
 {
-    match scheme.seal(nonce, len, working, out) {
-        Ok(end) => end,
-        Err(_) => unreachable(),
-    }
+    scheme.seal(nonce, len, working, out).unwrap()
 }
 
-// Encodes the content into the working bytes and seals what stands there; those past the first 96 stay.
+// Encodes the content into the working bytes and seals what stands there.
 fn write_token<S: SealingScheme>(
     scheme: &S,
     payload: &TokenPayload,
-    nonce: &[u8; 16],
-    working: &mut [u8],
+    nonce: &[u8; NONCE],
+    working: &mut [u8; WORKING],
     out: &mut [u8],
 ) -> usize
-    requires { (96 ≤ length working.old) × (81 ≤ length out.old) }
-    ensures written { TokenWritten (sealed_with (S.SealingScheme.image scheme.now) nonce.now (meant payload.now)) out.old out.new result }
-    ensures past { drop 96 working.new ≡ drop 96 working.old }
+    requires { 81 ≤ length out.old }
+    ensures { TokenWritten (sealed_with (S.SealingScheme.image scheme.now) nonce.now payload.now) out.old out.new result }
 {
     let len = encode_into(payload, working);
     let end = seal_into(scheme, nonce, len, working, out);
@@ -182,13 +147,13 @@ fn write_token<S: SealingScheme>(
 fn seal_token<S: SealingScheme>(
     scheme: &S,
     payload: &TokenPayload,
-    nonce: &[u8; 16],
-    working: &mut [u8],
+    nonce: &[u8; NONCE],
+    working: &mut [u8; WORKING],
     out: &mut [u8],
 ) -> usize
-    requires { (96 ≤ length working.old) × (81 ≤ length out.old) }
-    ensures written { TokenWritten (sealed_with (S.SealingScheme.image scheme.now) nonce.now (meant payload.now)) out.old out.new result }
-    ensures blank { working.new ≡ wiped working.old }
+    requires { 81 ≤ length out.old }
+    ensures written { TokenWritten (sealed_with (S.SealingScheme.image scheme.now) nonce.now payload.now) out.old out.new result }
+    ensures blank { working.new ≡ replicate 96 0 }
 {
     let guard = Working(working);
     write_token(scheme, payload, nonce, guard.0, out)
@@ -202,14 +167,15 @@ pub fn encode_token<S: SealingScheme>(
     nonce: Nonce,
     working: &mut [u8],
     out: &mut [u8],
-) -> Result<usize, Unsealed>
-    ensures { Wrote (token_for (S.SealingScheme.image scheme.now) nonce.low nonce.high (meant payload.now)) working.old working.new out.old out.new nonce result }
+) -> Result<usize, Refused<Nonce>>
+    ensures { Wrote (token_for (S.SealingScheme.image scheme.now) nonce.low nonce.high payload.now) working.old working.new out.old out.new nonce result }
 {
     if out.len() < MAX_TOKEN || working.len() < WORKING {
-        return Err(Unsealed {
+        return Err(Refused {
             refusal: Refusal::SmallBuffer,
-            nonce,
+            back: nonce,
         });
     }
+    let working = working.first_chunk_mut::<WORKING>().unwrap();
     Ok(seal_token(scheme, payload, &nonce.to_bytes(), working, out))
 }

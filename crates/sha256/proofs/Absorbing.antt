@@ -15,7 +15,7 @@ absorbed_front zero m x v h = refl
 absorbed_front (suc n) m x v h = ap₂ compressed (absorbed_front n m x v (omega arith)) (block_front m x n (omega arith))
 
 -- first q blocks, then k blocks of what is left
-absorbed_more : (k q : ℕ) (bs v : List ℕ) → absorbed (q + k) bs v ≡ absorbed k (drop (64 * q) bs) (absorbed q bs v)
+pub absorbed_more : (k q : ℕ) (bs v : List ℕ) → absorbed (q + k) bs v ≡ absorbed k (drop (64 * q) bs) (absorbed q bs v)
 unfolding absorbed
 absorbed_more zero q bs v = ap (λ (z : ℕ). absorbed z bs v) (let e : q + 0 ≡ q = omega arith in e)
 absorbed_more (suc k) q bs v =

@@ -1,5 +1,5 @@
 -- The hash values after the pads stand for the key.
-use Rattle.std.proofs.Common.{◌≡◌, ℕ, ◌+◌, ◌-◌, ◌<◌, ◌≤◌, Bool, true, false, cond, ltb, List, [], ◌∷◌, ◌++◌, length, take, drop, set, replicate, sym, refl, ap, ◌∙◌, ap₂, arith}
+use Rattle.std.proofs.Common.{◌≡◌, ℕ, ◌+◌, ◌-◌, ◌≤◌, Bool, true, false, if◌then◌else◌, List, ◌++◌, length, replicate, sym, refl, ap, ◌∙◌, ap₂, arith, nat_lt}
 use lib.Bits.{bit_xor}
 use borrow.Rule.Slice.PartMut.{post_of}
 use Rattle.std.proofs.lemmas.List.{length-append, length-map, length-replicate, drop-replicate}
@@ -8,10 +8,9 @@ use Rattle.sha256.specs.Constants.{initial}
 use Rattle.sha256.specs.Block.{compressed}
 use Rattle.sha256.specs.Digest.{digest, digest_from}
 use Rattle.sha256.specs.Hmac.{shortened, key_block, key_pad, hmac, signed}
-use Rattle.sha256.proofs.Padding.{marked, marked_front}
 use Rattle.sha256.proofs.Absorbing.{digest_block, length-digest}
 
-short : (b : Bool) (key : List ℕ) → (b ≡ false → length key ≤ 64) → length (cond b (digest key) key) ≤ 64
+short : (b : Bool) (key : List ℕ) → (b ≡ false → length key ≤ 64) → length (if b then digest key else key) ≤ 64
 short true key h = omega (arith, length-digest initial key (length key))
 short false key h = h refl
 
@@ -19,7 +18,7 @@ pub length_pad : (pad : ℕ) (key : List ℕ) → length (key_pad pad key) ≡ 6
 unfolding key_pad
 length_pad pad key =
     let k = shortened key in
-    let small : length k ≤ 64 = short (ltb 64 (length key)) key (ltb-false 64 (length key)) in
+    let small : length k ≤ 64 = short (nat_lt 64 (length key)) key (ltb-false 64 (length key)) in
     length-map (key_block key) (λ b. bit_xor b pad) ∙ length-append k (replicate (64 - length k) 0) ∙ omega (arith, length-replicate {A = ℕ} (64 - length k) 0)
 
 digest_keyed : (b m : List ℕ) → length b ≡ 64 → digest (b ++ m) ≡ digest_from (compressed initial b) (64 + length m) m
@@ -45,18 +44,6 @@ keyed key inner outer m p q =
 pub short-key : (size : ℕ) (front key : List ℕ) → size ≡ 64 → front ≡ key → length key ≤ 64 → front ++ post_of 0 (length key - 0) (replicate size 0) ≡ key_block key
 short-key size front key es e h =
     let zero : length key - 0 ≡ length key = omega arith in
-    let same : shortened key ≡ key = cond-false (ltb 64 (length key)) (digest key) key (le-ltb 64 (length key) h) in
+    let same : shortened key ≡ key = cond-false (nat_lt 64 (length key)) (digest key) key (le-ltb 64 (length key) h) in
     ap₂ ◌++◌ e (drop-replicate (length key - 0) size 0 ∙ ap₂ (λ (n k : ℕ). replicate (n - k) 0) es zero)
     ∙ ap (λ (k : List ℕ). k ++ replicate (64 - length k) 0) (sym same)
-
--- what is left of an info at the front of a block of zeros, and the byte 1
-pub info_laid : (size : ℕ) (front rest : List ℕ) → size ≡ 64 → front ≡ rest → length rest < 64
-    → take (length rest + 1) (set (front ++ post_of 0 (length rest - 0) (replicate size 0)) (length rest) 1) ≡ rest ++ (1 ∷ [])
-info_laid size front rest es e h =
-    let n = length rest in
-    let zero : n - 0 ≡ n = omega arith in
-    let one : n + 1 ≡ n + 1 + 0 = omega arith in
-    ap₂ (λ (x : List ℕ) (k : ℕ). take (n + 1) (set (x ++ drop k (replicate size 0)) n 1)) e zero
-    ∙ ap (take (n + 1)) (marked 1 size rest (omega arith))
-    ∙ ap (λ (k : ℕ). take k (rest ++ (1 ∷ replicate (size - n - 1) 0))) one
-    ∙ marked_front 1 rest 0 (size - n - 1) (omega arith)

@@ -3,3 +3,4 @@ pub mod Schedules
 pub mod Absorbing
 pub mod Padding
 pub mod Keys
+pub mod Chunks

@@ -1,11 +1,11 @@
 -- HMAC (RFC 2104) with SHA-256, and one step of HKDF's expansion (RFC 5869, section 2.3).
-use Rattle.std.specs.Prelude.{ℕ, ◌+◌, ◌-◌, cond, List, [], ◌∷◌, ◌++◌, map, length, replicate, bit_xor, nat_lt}
+use Rattle.std.specs.Prelude.{ℕ, ◌+◌, ◌-◌, if◌then◌else◌, List, [], ◌∷◌, ◌++◌, map, length, replicate, bit_xor, nat_lt}
 use Rattle.sha256.specs.Digest.{digest, digest_from}
 use Rattle.sha256.specs.declared.hmac.HmacKey.{HmacKey}
 
 -- a key of at most 64 bytes, a longer one by its digest; with zeros up to 64 bytes
 abbrev pub shortened : List ℕ → List ℕ
-shortened key = cond (nat_lt 64 (length key)) (digest key) key
+shortened key = if nat_lt 64 (length key) then digest key else key
 
 abbrev pub key_block : List ℕ → List ℕ
 key_block key = shortened key ++ replicate (64 - length (shortened key)) 0

@@ -1,8 +1,12 @@
-ghost use Rattle.std.specs.Prelude.{◌≡◌, ◌<◌, ◌≤◌, length, replicate};
-ghost use Rattle.sha256.specs.Words.{Ch, Maj, Σ0, Σ1, σ0, σ1};
-ghost use Rattle.sha256.specs.Block.{words, next_word, extended, stepped, rounds, compressed};
+ghost use Rattle.std.specs.Prelude.{◌≡◌, ◌/◌, ◌^◌, ◌<◌, ◌≤◌, [], ◌∷◌, bit_xor, replicate};
+ghost use Rattle.sha256.specs.Words.{Ch, Maj, rotr};
+ghost use Rattle.sha256.specs.Block.{words, next_word, extended, stepped, working, rounds, compressed};
 
 use crate::constants::round_constant;
+use std::array;
+
+// The bytes of a block.
+pub(crate) const BLOCK: usize = 64;
 
 // The eight working variables.
 #[derive(Clone, Copy)]
@@ -17,6 +21,32 @@ pub(crate) struct Work {
     h: u32,
 }
 
+impl From<[u32; 8]> for Work {
+    ghost from_gives = { λ value s. s ≡ working value };
+
+    fn from(value: [u32; 8]) -> Work {
+        let [a, b, c, d, e, f, g, h] = value;
+        Work {
+            a,
+            b,
+            c,
+            d,
+            e,
+            f,
+            g,
+            h,
+        }
+    }
+}
+
+impl From<Work> for [u32; 8] {
+    ghost from_gives = { λ s value. value ≡ s.a ∷ s.b ∷ s.c ∷ s.d ∷ s.e ∷ s.f ∷ s.g ∷ s.h ∷ [] };
+
+    fn from(s: Work) -> [u32; 8] {
+        [s.a, s.b, s.c, s.d, s.e, s.f, s.g, s.h]
+    }
+}
+
 fn choose(x: u32, y: u32, z: u32) -> u32
     ensures { result ≡ Ch x y z }
 {
@@ -29,43 +59,27 @@ fn majority(x: u32, y: u32, z: u32) -> u32
     (x & y) ^ (x & z) ^ (y & z)
 }
 
-fn big_sigma0(x: u32) -> u32
-    ensures { result ≡ Σ0 x }
+fn big_sigma<const A: u32, const B: u32, const C: u32>(x: u32) -> u32
+    requires { (0 < A) × (A < 32) × (0 < B) × (B < 32) × (0 < C) × (C < 32) }
+    ensures { result ≡ bit_xor (bit_xor (rotr A x) (rotr B x)) (rotr C x) }
 {
-    x.rotate_right(2) ^ x.rotate_right(13) ^ x.rotate_right(22)
+    x.rotate_right(A) ^ x.rotate_right(B) ^ x.rotate_right(C)
 }
 
-fn big_sigma1(x: u32) -> u32
-    ensures { result ≡ Σ1 x }
+fn small_sigma<const A: u32, const B: u32, const C: u32>(x: u32) -> u32
+    requires { (0 < A) × (A < 32) × (0 < B) × (B < 32) × (0 < C) × (C < 32) }
+    ensures { result ≡ bit_xor (bit_xor (rotr A x) (rotr B x)) (x / 2 ^ C) }
 {
-    x.rotate_right(6) ^ x.rotate_right(11) ^ x.rotate_right(25)
-}
-
-fn small_sigma0(x: u32) -> u32
-    ensures { result ≡ σ0 x }
-{
-    x.rotate_right(7) ^ x.rotate_right(18) ^ (x >> 3)
-}
-
-fn small_sigma1(x: u32) -> u32
-    ensures { result ≡ σ1 x }
-{
-    x.rotate_right(17) ^ x.rotate_right(19) ^ (x >> 10)
+    x.rotate_right(A) ^ x.rotate_right(B) ^ (x >> C)
 }
 
 // The block's sixteen words, and zeros for the words to come.
-fn load(block: &[u8]) -> [u32; 64]
-    requires { length block.now ≡ 64 }
+fn load(block: &[u8; BLOCK]) -> [u32; 64]
     ensures { result ≡ words 16 block.now (replicate 64 0) }
 {
-    let mut w: [u32; 64] = [0; 64];
-    for i in 0..16 {
-        w[i] = u32::from_be_bytes([
-            block[4 * i],
-            block[4 * i + 1],
-            block[4 * i + 2],
-            block[4 * i + 3],
-        ]);
+    let mut w = [0; 64];
+    for (i, bytes) in block.as_chunks::<4>().0.iter().enumerate() {
+        w[i] = u32::from_be_bytes(*bytes);
     }
     w
 }
@@ -74,9 +88,9 @@ fn next_word(w: &[u32; 64], t: usize) -> u32
     requires { (16 ≤ t) × (t < 64) }
     ensures { result ≡ next_word w.now t }
 {
-    small_sigma1(w[t - 2])
+    small_sigma::<17, 19, 10>(w[t - 2])
         .wrapping_add(w[t - 7])
-        .wrapping_add(small_sigma0(w[t - 15]))
+        .wrapping_add(small_sigma::<7, 18, 3>(w[t - 15]))
         .wrapping_add(w[t - 16])
 }
 
@@ -84,8 +98,9 @@ fn extend(words: [u32; 64]) -> [u32; 64]
     ensures { result ≡ extended 48 words }
 {
     let mut w = words;
-    for n in 0..48 {
-        w[16 + n] = next_word(&w, 16 + n);
+    // Each word is made of four before it in the same array, so no chain over its elements is plainer.
+    for t in 16..64 {
+        w[t] = next_word(&w, t);
     }
     w
 }
@@ -95,11 +110,11 @@ fn step(s: Work, k: u32, w: u32) -> Work
 {
     let t1 = s
         .h
-        .wrapping_add(big_sigma1(s.e))
+        .wrapping_add(big_sigma::<6, 11, 25>(s.e))
         .wrapping_add(choose(s.e, s.f, s.g))
         .wrapping_add(k)
         .wrapping_add(w);
-    let t2 = big_sigma0(s.a).wrapping_add(majority(s.a, s.b, s.c));
+    let t2 = big_sigma::<2, 13, 22>(s.a).wrapping_add(majority(s.a, s.b, s.c));
     Work {
         a: t1.wrapping_add(t2),
         b: s.a,
@@ -116,37 +131,17 @@ fn run(start: Work, w: &[u32; 64]) -> Work
     ensures { result ≡ rounds 64 w.now start }
 {
     let mut s = start;
-    for i in 0..64 {
-        s = step(s, round_constant(i), w[i]);
+    for (i, word) in w.iter().enumerate() {
+        s = step(s, round_constant(i), *word);
     }
     s
 }
 
-// The hash value after one more block of 64 bytes.
-pub(crate) fn compress(value: [u32; 8], block: &[u8]) -> [u32; 8]
-    requires { length block.now ≡ 64 }
+// The hash value after one more block.
+pub(crate) fn compress(value: [u32; 8], block: &[u8; BLOCK]) -> [u32; 8]
     ensures { result ≡ compressed value block.now }
 {
     let w = extend(load(block));
-    let start = Work {
-        a: value[0],
-        b: value[1],
-        c: value[2],
-        d: value[3],
-        e: value[4],
-        f: value[5],
-        g: value[6],
-        h: value[7],
-    };
-    let s = run(start, &w);
-    [
-        value[0].wrapping_add(s.a),
-        value[1].wrapping_add(s.b),
-        value[2].wrapping_add(s.c),
-        value[3].wrapping_add(s.d),
-        value[4].wrapping_add(s.e),
-        value[5].wrapping_add(s.f),
-        value[6].wrapping_add(s.g),
-        value[7].wrapping_add(s.h),
-    ]
+    let worked: [u32; 8] = run(Work::from(value), &w).into();
+    array::from_fn(|i| value[i].wrapping_add(worked[i]))
 }

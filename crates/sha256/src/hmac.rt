@@ -1,9 +1,9 @@
 ghost use Rattle.std.specs.Prelude.{◌≡◌, ℕ, ◌+◌, ◌<◌, List, [], ◌∷◌, ◌++◌, map, length, take, bit_xor};
 ghost use Rattle.sha256.specs.Hmac.{key_block, hmac as hmac_of, signed};
 
-use crate::block::compress;
+use crate::block::{BLOCK, compress};
 use crate::constants::INITIAL;
-use crate::message::{BLOCK, absorb, digest, digest_after, finish};
+use crate::message::{absorb, digest, digest_after, finish};
 
 // The bytes of the inner and the outer pad.
 const INNER_PAD: u8 = 0x36;
@@ -36,11 +36,7 @@ fn key_block(key: &[u8]) -> [u8; 64]
 fn mask(block: &[u8; 64], pad: u8) -> [u8; 64]
     ensures { result ≡ map (λ b. bit_xor b pad) block.now }
 {
-    let mut masked = [0; 64];
-    for i in 0..BLOCK {
-        masked[i] = block[i] ^ pad;
-    }
-    masked
+    block.map(|b| b ^ pad)
 }
 
 // What is left of an info after its whole blocks, and the byte 1 behind it.
@@ -77,14 +73,10 @@ impl HmacKey {
     pub fn expand(&self, info: &[u8]) -> [u8; 32]
         ensures { result ≡ signed self.now (info.now ++ (1 ∷ [])) }
     {
-        let at = info.len() / BLOCK * BLOCK;
-        let tail = last_info(&info[at..]);
+        let (_, rest) = info.as_chunks::<BLOCK>();
+        let tail = last_info(rest);
         let total = (BLOCK as u64 + 1).wrapping_add(info.len() as u64);
-        let inner = finish(
-            absorb(self.inner, info),
-            &tail[0..info.len() - at + 1],
-            total,
-        );
+        let inner = finish(absorb(self.inner, info), &tail[..rest.len() + 1], total);
         digest_after(self.outer, BLOCK as u64, &inner)
     }
 }

@@ -1,5 +1,5 @@
 -- Every fresh pair is accepted, over any filter: what a log of two generations bars after calls, by what these were.
-use Rattle.std.proofs.Common.{◌≡◌, ℕ, ◌+◌, ◌<◌, ◌≤◌, Bool, true, false, cond, ◌&&◌, eqb, List, [], ◌∷◌, is_ok, refl, ap, ◌∙◌, ⊎_elim, arith}
+use Rattle.std.proofs.Common.{◌≡◌, ℕ, ◌+◌, ◌<◌, ◌≤◌, Bool, true, false, if◌then◌else◌, ◌&&◌, nat_eq, List, [], ◌∷◌, is_ok, refl, ap, ◌∙◌, ⊎_elim, arith}
 use Rattle.std.proofs.lemmas.Bool.{false≢true, ltb-false, leb-false, or_parts, or_from, cases_Bool, cases_lt, cond-false}
 use Rattle.filter.specs.Filter.{Meaning, Same, Recorded, Records, Emptied, Fresh}
 use Rattle.token_log.specs.declared.two_generations.TwoGenerationLog.{TwoGenerationLog}
@@ -16,10 +16,10 @@ record Good (c : ℕ) (m : Meaning) (ps : List Call) : Type 0 where
   room : c ≤ m.sure + accepted ps
   only : 0 < m.sure → (l : ℕ) → has l ps ≡ false → m.refuses l ≡ false
 
-counted : (b : Bool) (n : ℕ) → b ≡ true → cond b 1 0 + n ≡ 1 + n
+counted : (b : Bool) (n : ℕ) → b ≡ true → (if b then 1 else 0) + n ≡ 1 + n
 counted b n e = rw e refl
 
-uncounted : (b : Bool) (n : ℕ) → n ≤ cond b 1 0 + n
+uncounted : (b : Bool) (n : ℕ) → n ≤ (if b then 1 else 0) + n
 uncounted true n = omega arith
 uncounted false n = omega arith
 
@@ -49,7 +49,7 @@ good_recorded c m m' k ps y r g = record {
   only = λ p l n.
       let some : 0 < m.sure = ⊎_elim (λ z. z) (λ z. let q = r.stays (omega arith) in absurd (omega arith)) (cases_lt 0 m.sure) in
       let parts = or_parts _ _ n in
-      let other : eqb k.low l ≡ false = second _ _ y parts.0 in
+      let other : nat_eq k.low l ≡ false = second _ _ y parts.0 in
       r.only p l ∙ or_from _ _ other (g.only some l parts.1);
 }
 

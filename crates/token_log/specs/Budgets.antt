@@ -1,24 +1,19 @@
 -- The log that a byte budget gives: two generations of turning filters, a set that goes over to a Bloom filter.
-use Rattle.std.specs.Prelude.{◌≡◌, ℕ, ◌*◌, Bool, cond, ◌&&◌, replicate, is_ok, vec_items, vec_len, vec_capacity, Result, MatchResult, nat_le, nat_lt}
+use Rattle.std.specs.Prelude.{◌≡◌, ℕ, Bool, if◌then◌else◌, ◌&&◌, replicate, is_ok, vec_items, vec_capacity, Result, MatchResult, nat_le, nat_lt}
+use Rattle.answers.specs.declared.Refused.{Refused}
 use Rattle.answers.specs.declared.Refusal.TheVariants.{HashCount, Capacity}
-use Rattle.filter.specs.Filter.{Meaning, Fresh, exact}
+use Rattle.filter.specs.Filter.{Fresh}
+use Rattle.filter.specs.Sets.{set_means}
 use Rattle.filter.specs.Memory.{room_of}
 use Rattle.filter.specs.Turning.{turned}
 use Rattle.filter.specs.declared.exact.ExactSet.{ExactSet}
-use Rattle.filter.specs.declared.memory.Unmade.{Unmade}
 use Rattle.filter.specs.declared.turning.TurningFilter.{TurningFilter}
-use Rattle.bloom.specs.Bloom.{bloom}
+use Rattle.bloom.specs.Means.{bloom_means}
 use Rattle.bloom.specs.Sizes.{half, words_for, Largest}
 use Rattle.bloom.specs.declared.bloom.BloomFilter.{BloomFilter}
 use Rattle.token_log.specs.declared.two_generations.TwoGenerationLog.{TwoGenerationLog}
 use Rattle.token_log.specs.declared.bloom_log.GenerationMemory.{GenerationMemory}
 use Rattle.token_log.specs.declared.bloom_log.LogMemory.{LogMemory}
-
-abbrev pub set_means : ExactSet → Meaning
-set_means s = exact (vec_items s.held) s.capacity
-
-abbrev pub bloom_means : BloomFilter → Meaning
-bloom_means b = bloom (vec_items b.words) (vec_len b.words * 64) b.k
 
 -- enough memory for a generation with the sure count c: one place more than that, and the words
 abbrev pub suits : ℕ → ℕ → GenerationMemory → Bool
@@ -45,6 +40,6 @@ pub record Budgeted (budget k c : ℕ) (s : TwoGenerationLog (TurningFilter Exac
 
 -- a call that makes one: refused by number 5 for a number of positions outside 1 to 64, else by 7 for a budget over the
 -- limit or too little memory, and then the memory comes back
-pub record Makes (budget k : ℕ) (memory : LogMemory) (r : Result (TwoGenerationLog (TurningFilter ExactSet BloomFilter)) (Unmade LogMemory)) : Type 0 where
+pub record Makes (budget k : ℕ) (memory : LogMemory) (r : Result (TwoGenerationLog (TurningFilter ExactSet BloomFilter)) (Refused LogMemory)) : Type 0 where
   pub answer : (c : ℕ) → Largest (half budget) c → is_ok r ≡ (fits_hashes k && (nat_le budget 16777216 && suits_both budget c memory))
-  pub cases : MatchResult r (λ s. (c : ℕ) → Largest (half budget) c → Budgeted budget k c s) (λ e. e ≡ record { refusal = cond (fits_hashes k) Capacity HashCount; memory = memory })
+  pub cases : MatchResult r (λ s. (c : ℕ) → Largest (half budget) c → Budgeted budget k c s) (λ e. e ≡ record { refusal = if fits_hashes k then Capacity else HashCount; back = memory })

@@ -1,5 +1,5 @@
 -- The log of two generations: what it bars, and the full account of one call.
-use Rattle.std.specs.Prelude.{◌≡◌, ℕ, ◌+◌, ◌*◌, ◌<◌, ◌≤◌, Bool, false, cond, ◌||◌, Err, ◌==◌, nat_lt}
+use Rattle.std.specs.Prelude.{◌≡◌, ℕ, ◌+◌, ◌*◌, ◌<◌, ◌≤◌, Bool, false, if◌then◌else◌, ◌||◌, Err, ◌==◌, nat_lt}
 use Rattle.answers.specs.declared.Cause.TheVariants.{ZeroLifetime, BeforePeriod}
 use Rattle.filter.specs.Filter.{Meaning, Records, Emptied, Fresh}
 use Rattle.token_log.specs.declared.two_generations.TwoGenerationLog.{TwoGenerationLog}
@@ -9,7 +9,7 @@ use Rattle.token_log.specs.Log.{Bars, Query, Answer, issue, expiry}
 -- generation two does; and later none
 abbrev pub within : ℕ → Meaning → Meaning → ℕ → ℕ → ℕ → Bool
 within start one two t low e =
-    nat_lt e start || cond (nat_lt e (start + t)) (one.refuses low) (cond (nat_lt e (start + 2 * t)) (two.refuses low) false)
+    nat_lt e start || (if nat_lt e (start + t) then one.refuses low else (if nat_lt e (start + 2 * t) then two.refuses low else false))
 
 -- what it bars; under a zero lifetime all
 abbrev pub barred : {F : Type 0} → (F → Meaning) → TwoGenerationLog F → Bars

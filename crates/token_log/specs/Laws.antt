@@ -1,5 +1,5 @@
 -- Successions of calls with one lifetime, and what every one of them keeps.
-use Rattle.std.specs.Prelude.{◌≡◌, ℕ, ◌+◌, ◌<◌, Bool, true, false, cond, ◌&&◌, ◌||◌, List, [], ◌∷◌, is_ok, ◌==◌, ◌≢◌, nat_le, nat_lt}
+use Rattle.std.specs.Prelude.{◌≡◌, ℕ, ◌+◌, ◌<◌, Bool, true, false, if◌then◌else◌, ◌&&◌, ◌||◌, List, [], ◌∷◌, is_ok, ◌==◌, ◌≢◌, nat_le, nat_lt}
 use Rattle.filter.specs.Filter.{Meaning}
 use Rattle.token_log.specs.declared.two_generations.TwoGenerationLog.{TwoGenerationLog}
 use Rattle.token_log.specs.Log.{Query, Answer, issue, expiry}
@@ -35,7 +35,7 @@ NoPairIsAcceptedTwice {L} R = (t : ℕ) (s s' : L) (ks : List Call) → Leads R 
 -- of earlier calls: how many were accepted, whether one of these has the low half, whether one was issued past e
 abbrev pub accepted : List Call → ℕ
 accepted [] = 0
-accepted (k ∷ ks) = cond (is_ok k.answer) 1 0 + accepted ks
+accepted (k ∷ ks) = (if is_ok k.answer then 1 else 0) + accepted ks
 
 abbrev pub has : ℕ → List Call → Bool
 has low [] = false

@@ -4,11 +4,11 @@ ghost use Rattle.bloom.specs.HashCount.{hash_count};
 ghost use Rattle.token_log.specs.Budgets.{suits as suits_for, suits_both, fits_hashes, Generation, Makes};
 
 use crate::TwoGenerationLog;
-use answers::Refusal;
+use answers::{Refusal, Refused};
 use bloom::{
     BloomFilter, MAX_BUDGET, MAX_HASHES, allocate_words, bloom_words, optimal_k_num, sure_count,
 };
-use filter::{ExactSet, Places, TurningFilter, Unmade};
+use filter::{ExactSet, Places, TurningFilter};
 use std::alloc::{AllocError, Global};
 
 // The log of two generations of turning filters: each begins as a set and goes over to a Bloom filter.
@@ -77,14 +77,9 @@ fn generation(
     ensures { Generation budget k sure result }
 {
     let GenerationMemory { places, words } = memory;
-    let set = match ExactSet::new(sure + 1, places) {
-        Ok(set) => set,
-        Err(_) => unreachable(),
-    };
-    match BloomFilter::new(budget, k, words) {
-        Ok(other) => TurningFilter::new(set, other),
-        Err(_) => unreachable(),
-    }
+    let set = ExactSet::new(sure + 1, places).unwrap();
+    let other = BloomFilter::new(budget, k, words).unwrap();
+    TurningFilter::new(set, other)
 }
 
 impl BloomTokenLog {
@@ -93,19 +88,19 @@ impl BloomTokenLog {
         budget: u32,
         k: u32,
         memory: LogMemory,
-    ) -> Result<BloomTokenLog, Unmade<LogMemory>>
+    ) -> Result<BloomTokenLog, Refused<LogMemory>>
         ensures { Makes budget k memory result }
     {
         if k == 0 || k > MAX_HASHES {
-            return Err(Unmade {
+            return Err(Refused {
                 refusal: Refusal::HashCount,
-                memory,
+                back: memory,
             });
         }
         if budget > MAX_BUDGET || !memory.one.suits(budget) || !memory.two.suits(budget) {
-            return Err(Unmade {
+            return Err(Refused {
                 refusal: Refusal::Capacity,
-                memory,
+                back: memory,
             });
         }
         let sure = sure_count(budget);
@@ -116,19 +111,20 @@ impl BloomTokenLog {
             two: generation(budget, k, sure, two),
         })
     }
+
     // The same with as many positions as suit the expected hits.
     pub fn with_expected_hits(
         budget: u32,
         hits: u32,
         memory: LogMemory,
-    ) -> Result<BloomTokenLog, Unmade<LogMemory>>
+    ) -> Result<BloomTokenLog, Refused<LogMemory>>
         ensures { Makes budget (hash_count budget hits) memory result }
     {
         BloomTokenLog::with_hashes(budget, optimal_k_num(budget, hits), memory)
     }
 
     // The same for the default budget and hits.
-    pub fn with_defaults(memory: LogMemory) -> Result<BloomTokenLog, Unmade<LogMemory>>
+    pub fn with_defaults(memory: LogMemory) -> Result<BloomTokenLog, Refused<LogMemory>>
         ensures { Makes 10485760 (hash_count 10485760 1000000) memory result }
     {
         BloomTokenLog::with_expected_hits(DEFAULT_BUDGET, DEFAULT_HITS, memory)

@@ -29,7 +29,7 @@ pub trait TokenLog {
 
     // Accepts a pair once: from then on it is barred.
     fn check_and_insert(&mut self, low: u64, issued: u32, lifetime: Lifetime) -> Result<(), Cause>
-        ensures { logs self.old (record { low = low; issued = issued; lifetime = lifetime.nanos }) result self.new };
+        ensures { logs self.old (record { low = low; issued = issued; lifetime = lifetime }) result self.new };
 
     ghost tied: { (s s' : Self) (x : Query) (r : Answer) → logs s x r s' → Answered x (is_ok r) (bars s) (bars s') };
 }
@@ -57,11 +57,11 @@ impl TokenLog for NoneTokenLog {
 
 // Of any log, no two accepted calls with one lifetime have equal low half and issue time.
 pub fn no_pair_is_accepted_twice<L: TokenLog>(_log: &L)
-    ensures { NoPairIsAcceptedTwice L.TokenLog.logs }
+    ensures { NoPairIsAcceptedTwice L.logs }
 {}
 
 // Of an unused log of two generations over any filter, under one lifetime above zero, a call is accepted unless an
 // earlier accepted call has its low half or an issue time past its expiry, or as many as the sure count were accepted.
 pub fn every_fresh_pair_is_accepted<F: Filter>(_log: &TwoGenerationLog<F>)
-    ensures { EveryFreshPairIsAccepted F.Filter.meaning }
+    ensures { EveryFreshPairIsAccepted F.meaning }
 {}

@@ -1,21 +1,31 @@
-ghost use Rattle.std.specs.Prelude.{◌≡◌, ◌≤◌, is_ok, MatchResult, nat_le};
+ghost use Rattle.std.specs.Prelude.{◌≡◌, ℕ, ◌≤◌, Ok, Err, if◌then◌else◌, nat_le};
 ghost use Rattle.answers.specs.declared.Refusal.TheVariants.{LongLifetime};
 
 use answers::Refusal;
+use std::marker::Model;
 
 const LONGEST: u64 = 1_073_741_824_000_000_000;
 
 // How long a token is good for, in whole nanoseconds: at most 1,073,741,824 seconds.
 #[derive(Clone, Copy, PartialEq, Eq, Debug)]
 pub struct Lifetime {
-    pub(crate) nanos: u64,
-    ghost short: { nanos ≤ 1073741824000000000 },
+    nanos: u64,
+}
+
+// In clauses a lifetime is its nanoseconds.
+impl Model for Lifetime {
+    ghost Value = { ℕ };
+
+    ghost view = { λ l. l.nanos };
+
+    ghost invariant = { λ l. l.nanos ≤ 1073741824000000000 };
+
+    ghost inverse = { λ n. record { nanos = n } };
 }
 
 impl Lifetime {
     pub fn from_nanos(nanos: u64) -> Result<Lifetime, Refusal>
-        ensures answer { is_ok result ≡ nat_le nanos 1073741824000000000 }
-        ensures cases { MatchResult result (λ l. l.nanos ≡ nanos) (λ e. e ≡ LongLifetime) }
+        ensures { result ≡ (if nat_le nanos 1073741824000000000 then Ok nanos else Err LongLifetime) }
     {
         if nanos > LONGEST {
             return Err(Refusal::LongLifetime);
@@ -24,7 +34,7 @@ impl Lifetime {
     }
 
     pub fn nanos(self) -> u64
-        ensures same { result ≡ self.nanos }
+        ensures same { result ≡ self }
         ensures short { result ≤ 1073741824000000000 }
     {
         self.nanos

@@ -11,17 +11,11 @@ const SECOND: u64 = 1_000_000_000;
 const LONGEST: u64 = 1_073_741_824;
 
 fn seconds(count: u64) -> Result<Lifetime, Fail> {
-    match Lifetime::from_nanos(count.saturating_mul(SECOND)) {
-        Ok(lifetime) => Ok(lifetime),
-        Err(_) => Err(Fail::new("a lifetime")),
-    }
+    Ok(Lifetime::from_nanos(count.saturating_mul(SECOND))?)
 }
 
 fn set(heap: Global, capacity: u32) -> Result<ExactSet, Fail> {
-    match ExactSet::new(capacity, Places::allocate(heap, capacity)?) {
-        Ok(set) => Ok(set),
-        Err(_) => Err(Fail::new("a set")),
-    }
+    ExactSet::new(capacity, Places::allocate(heap, capacity)?).map_err(|_| Fail::new("a set"))
 }
 
 #[test]
@@ -110,15 +104,15 @@ fn refusals_of_budgets(rt: HostRuntime) -> Result<(), Fail> {
         return Err(Fail::new("65 positions"));
     };
     assert_eq!(rt; back.refusal, Refusal::HashCount);
-    let Err(back) = BloomTokenLog::with_hashes(MAX_BUDGET + 1, 64, back.memory) else {
+    let Err(back) = BloomTokenLog::with_hashes(MAX_BUDGET + 1, 64, back.back) else {
         return Err(Fail::new("a budget too large"));
     };
     assert_eq!(rt; back.refusal, Refusal::Capacity);
-    let Err(back) = BloomTokenLog::with_expected_hits(112, 28, back.memory) else {
+    let Err(back) = BloomTokenLog::with_expected_hits(112, 28, back.back) else {
         return Err(Fail::new("too little memory"));
     };
     assert_eq!(rt; back.refusal, Refusal::Capacity);
-    assert!(rt; BloomTokenLog::with_expected_hits(48, 28, back.memory).is_ok());
+    assert!(rt; BloomTokenLog::with_expected_hits(48, 28, back.back).is_ok());
     Ok(())
 }
 

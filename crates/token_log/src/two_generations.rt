@@ -20,7 +20,7 @@ pub struct TwoGenerationLog<F> {
 impl<F: Filter> TwoGenerationLog<F> {
     // An unused log over two filters of one sure count, which are emptied.
     pub fn new(mut one: F, mut two: F) -> TwoGenerationLog<F>
-        ensures { Begun F.Filter.meaning one two result }
+        ensures { Begun F.meaning one two result }
     {
         one.empty();
         two.empty();
@@ -33,14 +33,14 @@ impl<F: Filter> TwoGenerationLog<F> {
 }
 
 impl<F: Filter> TokenLog for TwoGenerationLog<F> {
-    ghost bars = { barred F.Filter.meaning };
+    ghost bars = { barred F.meaning };
 
-    ghost logs = { Logs F.Filter.meaning };
+    ghost logs = { Logs F.meaning };
 
     ghost tied = { Prim.search rules };
 
     fn check_and_insert(&mut self, low: u64, issued: u32, lifetime: Lifetime) -> Result<(), Cause> {
-        let lifetime = lifetime.nanos;
+        let lifetime = lifetime.nanos();
         if lifetime == 0 {
             return Err(Cause::ZeroLifetime);
         }
@@ -49,19 +49,17 @@ impl<F: Filter> TokenLog for TwoGenerationLog<F> {
         if expiry < self.period_start {
             return Err(Cause::BeforePeriod);
         }
-        let since = expiry - self.period_start;
-        if since < lifetime {
-            return self.one.record(low);
-        }
-        if since < 2 * lifetime {
-            return self.two.record(low);
-        }
-        if since < 3 * lifetime {
-            std::mem::swap(&mut self.one, &mut self.two);
-            self.period_start += lifetime;
-        } else {
-            self.one.empty();
-            self.period_start = issue;
+        match (expiry - self.period_start) / lifetime {
+            0 => return self.one.record(low),
+            1 => return self.two.record(low),
+            2 => {
+                std::mem::swap(&mut self.one, &mut self.two);
+                self.period_start += lifetime;
+            }
+            _ => {
+                self.one.empty();
+                self.period_start = issue;
+            }
         }
         self.two.empty();
         self.two.record(low)

@@ -1,5 +1,5 @@
 -- The cache on lists does what a store does.
-use Rattle.std.proofs.Common.{◌≡◌, ℕ, ◌<◌, ◌≤◌, Bool, true, false, cond, ◌&&◌, ◌||◌, eqb, leb, ◌⊎◌, List, [], ◌∷◌, ◌++◌, length, drop, Some, None, Option, sym, refl, ap, ◌∙◌, subst, inl, inr, ⊎_elim, arith}
+use Rattle.std.proofs.Common.{◌≡◌, ℕ, ◌<◌, ◌≤◌, Bool, true, false, cond, ◌&&◌, ◌||◌, nat_eq, nat_le, ◌⊎◌, List, [], ◌∷◌, ◌++◌, length, drop, Some, None, Option, sym, refl, ap, ◌∙◌, subst, inl, inr, ⊎_elim, arith}
 use Rattle.std.specs.Str.{bytes_eq}
 use Rattle.std.proofs.lemmas.Bool.{false≢true, and_parts, and_from, or_parts, or_cases, or_from, or_left, or_right, not-true, not_from_false, cond-true, cond-false, cond_both, cases_Bool, leb-true, leb-false, le-leb, eqb-false}
 use Rattle.std.proofs.lemmas.List.{length_push, length-drop}
@@ -91,7 +91,7 @@ added_by : (P : List Bytes → Type 0) (k : ℕ) (t : Bytes) (ts : List Bytes) �
     → (has t ts ≡ false → k ≤ length ts → P (drop 1 ts ++ t ∷ [])) → (has t ts ≡ false → length ts < k → P (ts ++ t ∷ [])) → P (added k t ts)
 added_by P k t ts held full room =
     cond_both (has t ts) ts _ P held
-    (λ h. cond_both (leb k (length ts)) (drop 1 ts) ts (λ xs. P (xs ++ t ∷ [])) (λ l. full h (leb-true _ _ l)) (λ l. room h (leb-false _ _ l)))
+    (λ h. cond_both (nat_le k (length ts)) (drop 1 ts) ts (λ xs. P (xs ++ t ∷ [])) (λ l. full h (leb-true _ _ l)) (λ l. room h (leb-false _ _ l)))
 
 has-added : (k : ℕ) (t : Bytes) (ts : List Bytes) (u : Bytes) → has u (added k t ts) ≡ true → (has u ts ≡ true) ⊎ (u ≡ t)
 has-added k t ts u =
@@ -113,8 +113,8 @@ length-added k t ts z h =
 
 shorts-added : (k : ℕ) (t : Bytes) (ts : List Bytes) → shorts ts ≡ true → length t ≤ 512 → shorts (added k t ts) ≡ true
 shorts-added k t ts h l =
-    let ok : leb (length t) 512 ≡ true = le-leb _ _ l in
-    let test : Bytes → Bool = λ x. leb (length x) 512 in
+    let ok : nat_le (length t) 512 ≡ true = le-leb _ _ l in
+    let test : Bytes → Bool = λ x. nat_le (length x) 512 in
     added_by (λ xs. shorts xs ≡ true) k t ts (λ _. h) (λ _ _. every_push test (drop 1 ts) t (every_drop test ts h) ok) (λ _ _. every_push test ts t h ok)
 
 -- names
@@ -211,7 +211,7 @@ length_less n (e ∷ es) d =
     cond_both (bytes_eq n e.name) (without n es) (e ∷ without n es) (λ xs. length xs < length (e ∷ es)) (λ _. omega arith)
     (λ s. ⊎_elim (λ q. absurd (false≢true (sym s ∙ q))) (λ q. omega (arith, length_less n es q)) (or_cases _ _ d))
 
-positive : (a b : ℕ) → (eqb a 0 || eqb b 0) ≡ false → (0 < a) × (0 < b)
+positive : (a b : ℕ) → (nat_eq a 0 || nat_eq b 0) ≡ false → (0 < a) × (0 < b)
 positive a b e =
     let p = or_parts _ _ e in
     let x : a ≡ 0 → ⊥ = eqb-false a 0 p.0 in
@@ -225,11 +225,11 @@ stored_by : (P : List Entry → Type 0) (names tokens : ℕ) (n t : Bytes) (es :
     → (0 < names → 0 < tokens → named n es ≡ false → length es < names → P (es ++ record { name = n; tokens = t ∷ [] } ∷ []))
     → P (stored names tokens n t es)
 stored_by P names tokens n t es off again full room =
-    cond_both (eqb names 0 || eqb tokens 0) es _ P (λ _. off)
+    cond_both (nat_eq names 0 || nat_eq tokens 0) es _ P (λ _. off)
     (λ e.
     let z = positive names tokens e in
     cond_both (named n es) _ _ P (again z.0 z.1)
-    (λ d. cond_both (leb names (length es)) (drop 1 es) es (λ xs. P (xs ++ record { name = n; tokens = t ∷ [] } ∷ []))
+    (λ d. cond_both (nat_le names (length es)) (drop 1 es) es (λ xs. P (xs ++ record { name = n; tokens = t ∷ [] } ∷ []))
     (λ l. full z.0 z.1 d (leb-true _ _ l)) (λ l. room z.0 z.1 d (leb-false _ _ l))))
 
 -- an insert adds at most the given token
@@ -287,10 +287,10 @@ removed_by n es (t ∷ (v ∷ vs)) e a =
 -- the limits are kept
 module _ (names tokens : ℕ) (es : List Entry) (k : Kept names tokens es) where
   fits_of : (n : Bytes) → length (tokens_of n es) ≤ tokens
-  fits_of n = tokens_by (λ ts. length ts ≤ tokens) (λ e. leb (length e.tokens) tokens) (omega arith) (λ e. leb-true (length e.tokens) tokens) n es k.3
+  fits_of n = tokens_by (λ ts. length ts ≤ tokens) (λ e. nat_le (length e.tokens) tokens) (omega arith) (λ e. leb-true (length e.tokens) tokens) n es k.3
 
   shorts_of : (n : Bytes) → shorts (tokens_of n es) ≡ true
-  shorts_of n = tokens_by (λ ts. shorts ts ≡ true) (λ e. leb (length e.name) 255 && shorts e.tokens) refl (λ e h. (and_parts _ _ h).1) n es k.1
+  shorts_of n = tokens_by (λ ts. shorts ts ≡ true) (λ e. nat_le (length e.name) 255 && shorts e.tokens) refl (λ e h. (and_parts _ _ h).1) n es k.1
 
   -- a name pushed to some of the entries
   kept_push : (fs : List Entry) (n : Bytes) (ts : List Bytes) → sound fs ≡ true → short fs ≡ true → fits tokens fs ≡ true → length fs < names
@@ -299,16 +299,16 @@ module _ (names tokens : ℕ) (es : List Entry) (k : Kept names tokens es) where
   kept_push fs n ts s h f l z b a o c d =
       let e : Entry = record { name = n; tokens = ts } in (
         sound_push fs e s z a o,
-        every_push (λ x. leb (length x.name) 255 && shorts x.tokens) fs e h (and_from _ _ (le-leb _ _ b) c),
+        every_push (λ x. nat_le (length x.name) 255 && shorts x.tokens) fs e h (and_from _ _ (le-leb _ _ b) c),
         omega (arith, length_push fs e, l),
-        every_push (λ x. leb (length x.tokens) tokens) fs e f (le-leb _ _ d),
+        every_push (λ x. nat_le (length x.tokens) tokens) fs e f (le-leb _ _ d),
       )
 
   short-without : (n : Bytes) → short (without n es) ≡ true
-  short-without n = every-without (λ x. leb (length x.name) 255 && shorts x.tokens) n es k.1
+  short-without n = every-without (λ x. nat_le (length x.name) 255 && shorts x.tokens) n es k.1
 
   fits-without : (n : Bytes) → fits tokens (without n es) ≡ true
-  fits-without n = every-without (λ x. leb (length x.tokens) tokens) n es k.3
+  fits-without n = every-without (λ x. nat_le (length x.tokens) tokens) n es k.3
 
   kept_named : (n : Bytes) (ts : List Bytes) → length n ≤ 255 → named n es ≡ true → apart ts ≡ true → some ts ≡ true → shorts ts ≡ true → length ts ≤ tokens
       → Kept names tokens (without n es ++ record { name = n; tokens = ts } ∷ [])
@@ -321,8 +321,8 @@ module _ (names tokens : ℕ) (es : List Entry) (k : Kept names tokens es) where
       stored_by (Kept names tokens) names tokens n t es k
       (λ _ z d. kept_named n (added tokens t (tokens_of n es)) b d (apart-added tokens t (tokens_of n es) (apart_of es n k.0)) (some-added tokens t (tokens_of n es))
       (shorts-added tokens t (tokens_of n es) (shorts_of n) c) (length-added tokens t (tokens_of n es) z (fits_of n)))
-      (λ y z d l. kept_push (drop 1 es) n (t ∷ []) (sound-drop es k.0) (every_drop (λ x. leb (length x.name) 255 && shorts x.tokens) es k.1)
-      (every_drop (λ x. leb (length x.tokens) tokens) es k.3) (omega (arith, length-drop 1 es, k.2, l)) (named-drop es n d) b refl refl one (omega arith))
+      (λ y z d l. kept_push (drop 1 es) n (t ∷ []) (sound-drop es k.0) (every_drop (λ x. nat_le (length x.name) 255 && shorts x.tokens) es k.1)
+      (every_drop (λ x. nat_le (length x.tokens) tokens) es k.3) (omega (arith, length-drop 1 es, k.2, l)) (named-drop es n d) b refl refl one (omega arith))
       (λ y z d l. kept_push es n (t ∷ []) k.0 k.1 k.3 l d b refl refl one (omega arith))
 
   kept_rest : (n : Bytes) (ts : List Bytes) → length n ≤ 255 → tokens_of n es ≡ ts → Kept names tokens (rest n es ts)

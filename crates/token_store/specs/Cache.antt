@@ -1,6 +1,6 @@
 -- The memory cache, on lists: names with their tokens. The name least recently used stands first, and of each name's
 -- tokens the oldest.
-use Rattle.std.specs.Prelude.{◌≡◌, ℕ, ◌≤◌, Bool, true, false, cond, not, ◌&&◌, ◌||◌, leb, List, [], ◌∷◌, ◌++◌, length, drop, Some, None, Ok, Option, ◌==◌, nat_le}
+use Rattle.std.specs.Prelude.{◌≡◌, ℕ, ◌≤◌, Bool, true, false, not, ◌&&◌, ◌||◌, nat_le, List, [], ◌∷◌, ◌++◌, length, drop, Some, None, Ok, Option, ◌==◌, if◌then◌else◌}
 use Rattle.std.specs.Str.{bytes_eq}
 use Rattle.answers.specs.Buffers.{fronted}
 use Rattle.token_store.specs.Store.{Bytes, Holds, Alike, Stores, Takes, Handed}
@@ -20,11 +20,11 @@ named n (e ∷ es) = bytes_eq n e.name || named n es
 -- the tokens of a name, none where it is not there; the other names
 abbrev pub tokens_of : Bytes → List Entry → List Bytes
 tokens_of n [] = []
-tokens_of n (e ∷ es) = cond (bytes_eq n e.name) e.tokens (tokens_of n es)
+tokens_of n (e ∷ es) = if bytes_eq n e.name then e.tokens else tokens_of n es
 
 abbrev pub without : Bytes → List Entry → List Entry
 without n [] = []
-without n (e ∷ es) = cond (bytes_eq n e.name) (without n es) (e ∷ without n es)
+without n (e ∷ es) = if bytes_eq n e.name then without n es else e ∷ without n es
 
 -- what the cache holds
 abbrev pub holding : List Entry → Holds
@@ -32,15 +32,15 @@ holding es n t = has t (tokens_of n es)
 
 -- a token stored to a name of at most k: a duplicate is discarded, and a full name drops its oldest
 abbrev pub added : ℕ → Bytes → List Bytes → List Bytes
-added k t ts = cond (has t ts) ts (cond (nat_le k (length ts)) (drop 1 ts) ts ++ t ∷ [])
+added k t ts = if has t ts then ts else (if nat_le k (length ts) then drop 1 ts else ts) ++ t ∷ []
 
 -- an insert, at limits of names and of tokens a name: the name is then used last; a new name past the limit pushes out
 -- the one least recently used; either limit zero, nothing happens
 abbrev pub stored : ℕ → ℕ → Bytes → Bytes → List Entry → List Entry
 stored names tokens n t es =
-    cond (names == 0 || tokens == 0) es
-    (cond (named n es) (without n es ++ record { name = n; tokens = added tokens t (tokens_of n es) } ∷ [])
-    (cond (nat_le names (length es)) (drop 1 es) es ++ record { name = n; tokens = t ∷ [] } ∷ []))
+    if names == 0 || tokens == 0 then es
+    else if named n es then without n es ++ record { name = n; tokens = added tokens t (tokens_of n es) } ∷ []
+    else (if nat_le names (length es) then drop 1 es else es) ++ record { name = n; tokens = t ∷ [] } ∷ []
 
 -- what a take hands out, and what it leaves: the name is then used last, or removed where it has no token left
 abbrev pub oldest : List Bytes → Option Bytes
@@ -78,10 +78,10 @@ every test (x ∷ xs) = test x && every test xs
 
 -- within the limit of tokens; names of at most 255 bytes, and tokens of at most 512
 abbrev pub fits : ℕ → List Entry → Bool
-fits tokens = every (λ e. leb (length e.tokens) tokens)
+fits tokens = every (λ e. nat_le (length e.tokens) tokens)
 
 abbrev pub shorts : List Bytes → Bool
-shorts = every (λ t. leb (length t) 512)
+shorts = every (λ t. nat_le (length t) 512)
 
 abbrev pub short : List Entry → Bool
 short = every (λ e. nat_le (length e.name) 255 && shorts e.tokens)

@@ -1,5 +1,5 @@
 -- Successions of calls of a store that held nothing, and what every one of them keeps.
-use Rattle.std.specs.Prelude.{◌≡◌, ℕ, Bool, true, false, cond, ◌&&◌, List, [], ◌∷◌, take, is_ok, Some, None, Ok, Err, Option, Result}
+use Rattle.std.specs.Prelude.{◌≡◌, ℕ, Bool, true, false, ◌&&◌, List, [], ◌∷◌, take, is_ok, Some, None, Ok, Err, Option, Result, if◌then◌else◌}
 use Rattle.std.specs.Str.{bytes_eq}
 use Rattle.answers.specs.declared.Refusal.{Refusal}
 use Rattle.token_store.specs.Store.{Bytes, Holds, Stores, Takes}
@@ -40,7 +40,7 @@ stores n t (taking m out out' r) = false
 -- whether, going back, t was stored under n, and not handed out there since
 abbrev pub preceded : Bytes → Bytes → List Call → Bool
 preceded n t [] = false
-preceded n t (x ∷ xs) = cond (stores n t x) true (cond (takes n t x) false (preceded n t xs))
+preceded n t (x ∷ xs) = if stores n t x then true else if takes n t x then false else preceded n t xs
 
 -- a token that a call hands out under a name was stored there before, and after any earlier call that handed it out
 abbrev pub OnlyAsStored : List Call → Type 0

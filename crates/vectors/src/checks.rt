@@ -1,13 +1,15 @@
 // What each kind of vector says, and whether it holds.
 use crate::words::{array, bytes};
 use aes::Aes256;
-use anyhow::anyhow;
 use ccm::CcmScheme;
 use sealing::{SealingScheme, TAG, WORKING};
 use sha256::HmacKey;
 use std::alloc::Global;
+use std::error::Error;
+use std::fmt;
+use std::str::FromStr;
 
-#[derive(Clone, Copy)]
+#[derive(Clone, Copy, PartialEq, Eq, PartialOrd, Ord)]
 pub(crate) enum Group {
     Sha256,
     Hmac,
@@ -24,14 +26,43 @@ impl Group {
         Group::Aes256,
         Group::Ccm,
     ];
+}
 
-    pub(crate) fn name(self) -> &'static str {
-        match self {
+impl fmt::Display for Group {
+    fn fmt<W: fmt::Write>(&self, f: &mut fmt::Formatter<W>) -> fmt::Result {
+        f.write_str(match self {
             Group::Sha256 => "SHA-256, FIPS 180-4",
             Group::Hmac => "HMAC-SHA-256, RFC 4231",
             Group::Expand => "HKDF, one step of the expansion, RFC 5869",
             Group::Aes256 => "AES-256, FIPS 197 and SP 800-38A",
             Group::Ccm => "CCM under derived keys, content of 0 to 64 bytes",
+        })
+    }
+}
+
+// A line whose first word names no group.
+#[derive(Clone, Copy, Debug)]
+pub(crate) struct NoGroup;
+
+impl fmt::Display for NoGroup {
+    fn fmt<W: fmt::Write>(&self, f: &mut fmt::Formatter<W>) -> fmt::Result {
+        f.write_str("a line is of no kind")
+    }
+}
+
+impl Error for NoGroup {}
+
+impl FromStr for Group {
+    type Err = NoGroup;
+
+    fn from_str(word: &str) -> Result<Group, NoGroup> {
+        match word {
+            "sha256" => Ok(Group::Sha256),
+            "hmac" => Ok(Group::Hmac),
+            "expand" => Ok(Group::Expand),
+            "aes256" => Ok(Group::Aes256),
+            "ccm" => Ok(Group::Ccm),
+            _ => Err(NoGroup),
         }
     }
 }
@@ -42,17 +73,14 @@ const SEALED: usize = 80;
 fn opens_to(scheme: &CcmScheme, nonce: &[u8; 16], sealed: &[u8], content: &[u8]) -> bool {
     let mut working = [0; WORKING];
     match scheme.open(nonce, sealed, &mut working) {
-        Ok(Some(len)) => len <= WORKING && &working[0..len] == content,
+        Ok(Some(len)) => len == content.len() && working.starts_with(content),
         _ => false,
     }
 }
 
 fn stays_shut(scheme: &CcmScheme, nonce: &[u8; 16], sealed: &[u8]) -> bool {
     let mut working = [0; WORKING];
-    match scheme.open(nonce, sealed, &mut working) {
-        Ok(None) => true,
-        _ => false,
-    }
+    matches!(scheme.open(nonce, sealed, &mut working), Ok(None))
 }
 
 // Seals the content into the front of `out`, by way of the working bytes.
@@ -67,17 +95,14 @@ fn seal_into(
         return None;
     }
     working[0..content.len()].copy_from_slice(content);
-    match scheme.seal(nonce, content.len(), working, out) {
-        Ok(len) => Some(len),
-        Err(_) => None,
-    }
+    scheme.seal(nonce, content.len(), working, out).ok()
 }
 
 fn seals_to(scheme: &CcmScheme, nonce: &[u8; 16], content: &[u8], sealed: &[u8]) -> bool {
     let mut working = [0; WORKING];
     let mut out = [0; SEALED];
     match seal_into(scheme, nonce, content, &mut working, &mut out) {
-        Some(len) => len <= SEALED && &out[0..len] == sealed,
+        Some(len) => len == sealed.len() && out.starts_with(sealed),
         None => false,
     }
 }
@@ -96,44 +121,37 @@ fn ccm_holds(scheme: &CcmScheme, nonce: &[u8; 16], content: &[u8], sealed: &mut 
     good && first && stays_shut(scheme, nonce, sealed)
 }
 
-// Whether the signature begins with these bytes.
-fn begins(signature: &[u8; 32], bytes: &[u8]) -> bool {
-    bytes.len() <= 32 && &signature[0..bytes.len()] == bytes
-}
-
 // The group of a line's vector, and whether it holds.
 pub(crate) fn check(heap: Global, line: &str) -> anyhow::Result<(Group, bool)> {
     let mut words = line.split(' ');
-    match words.next() {
-        Some("sha256") => {
+    let group = words.next().ok_or(NoGroup)?.parse()?;
+    let holds = match group {
+        Group::Sha256 => {
             let digest = sha256::digest(&bytes(heap, words.next())?);
-            Ok((Group::Sha256, digest == array::<32>(heap, words.next())?))
+            digest == array::<32>(heap, words.next())?
         }
-        Some("hmac") => {
+        Group::Hmac => {
             let key = HmacKey::new(&bytes(heap, words.next())?);
             let signature = key.sign(&bytes(heap, words.next())?);
-            Ok((Group::Hmac, begins(&signature, &bytes(heap, words.next())?)))
+            signature.starts_with(&bytes(heap, words.next())?)
         }
-        Some("expand") => {
+        Group::Expand => {
             let key = HmacKey::new(&bytes(heap, words.next())?);
             let derived = key.expand(&bytes(heap, words.next())?);
-            Ok((Group::Expand, derived == array::<32>(heap, words.next())?))
+            derived == array::<32>(heap, words.next())?
         }
-        Some("aes256") => {
+        Group::Aes256 => {
             let aes = Aes256::new(&array(heap, words.next())?);
             let block = aes.encrypt_block(array(heap, words.next())?);
-            Ok((Group::Aes256, block == array::<16>(heap, words.next())?))
+            block == array::<16>(heap, words.next())?
         }
-        Some("ccm") => {
+        Group::Ccm => {
             let scheme = CcmScheme::new(&array(heap, words.next())?);
             let nonce = array(heap, words.next())?;
             let content = bytes(heap, words.next())?;
             let mut sealed = bytes(heap, words.next())?;
-            Ok((
-                Group::Ccm,
-                ccm_holds(&scheme, &nonce, &content, &mut sealed),
-            ))
+            ccm_holds(&scheme, &nonce, &content, &mut sealed)
         }
-        _ => Err(anyhow!("a line is of no kind")),
-    }
+    };
+    Ok((group, holds))
 }

@@ -5,10 +5,11 @@ mod words;
 
 use checks::{Group, check};
 use std::alloc::Global;
+use std::collections::BTreeMap;
 use std::io::{BufRead, BufReader};
 
 // How many vectors of a group were run, and how many of them hold.
-#[derive(Clone, Copy)]
+#[derive(Clone, Copy, Default)]
 struct Tally {
     run: u32,
     hold: u32,
@@ -18,15 +19,15 @@ struct Tally {
 fn run_line(
     rt: &impl Print,
     heap: Global,
-    number: u32,
+    number: u64,
     line: &str,
-    tallies: &mut [Tally; 5],
+    tallies: &mut BTreeMap<Group, Tally>,
 ) -> anyhow::Result<()> {
     if line.is_empty() || line.starts_with('#') {
         return Ok(());
     }
     let (group, holds) = check(heap, line)?;
-    let tally = &mut tallies[group as usize];
+    let tally = tallies.entry(group)?.or_default();
     tally.run = tally.run.saturating_add(1);
     if holds {
         tally.hold = tally.hold.saturating_add(1);
@@ -38,15 +39,15 @@ fn run_line(
 
 fn run(rt: &HostRuntime) -> anyhow::Result<()> {
     let heap = rt.alloc();
-    let mut tallies = [Tally { run: 0, hold: 0 }; 5];
-    let mut number: u32 = 0;
-    for line in BufReader::new(heap, rt.stdin())?.lines(heap) {
-        number = number.saturating_add(1);
+    let mut tallies = BTreeMap::new(heap);
+    for group in Group::ALL {
+        tallies.insert(group, Tally::default())?;
+    }
+    for (number, line) in (1..).zip(BufReader::new(heap, rt.stdin())?.lines(heap)) {
         run_line(rt, heap, number, line?.as_str(), &mut tallies)?;
     }
-    for group in Group::ALL {
-        let tally = tallies[group as usize];
-        println!(rt; "{}: {} of {} hold", group.name(), tally.hold, tally.run)?;
+    for (group, tally) in &tallies {
+        println!(rt; "{group}: {} of {} hold", tally.hold, tally.run)?;
     }
     Ok(())
 }

@@ -18,20 +18,14 @@ pub(crate) fn bytes(heap: Global, word: Option<&str>) -> anyhow::Result<Vec<u8>>
     let Some(part) = read_hex(heap, text.as_bytes())? else {
         return Err(anyhow!("a word is not in hex"));
     };
-    let mut all = Vec::new(heap);
-    for _ in 0..count {
-        all.extend_from_slice(&part)?;
-    }
-    Ok(all)
+    Ok(part.repeat(heap, count as usize)?)
 }
 
 // Bytes of just one length.
 pub(crate) fn array<const N: usize>(heap: Global, word: Option<&str>) -> anyhow::Result<[u8; N]> {
     let read = bytes(heap, word)?;
-    if read.len() != N {
+    let Ok(array) = read.as_slice().try_into() else {
         return Err(anyhow!("a word has another length"));
-    }
-    let mut array = [0; N];
-    array.copy_from_slice(&read);
+    };
     Ok(array)
 }

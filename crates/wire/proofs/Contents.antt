@@ -1,5 +1,5 @@
 -- Every field, and so every content, has exactly one encoding, which decoding undoes.
-use Rattle.std.proofs.Common.{◌≡◌, ℕ, suc, ◌+◌, ◌^◌, ◌<◌, ◌≤◌, Bool, true, false, cond, eqb, ltb, ◌⊎◌, List, [], ◌∷◌, ◌++◌, length, get_or, take, drop, Ok, Err, Result, sym, refl, ap, ◌∙◌, inl, inr, ⊎_elim, arith, length-append}
+use Rattle.std.proofs.Common.{◌≡◌, ℕ, suc, ◌+◌, ◌^◌, ◌<◌, ◌≤◌, Bool, true, false, cond, nat_eq, nat_lt, ◌⊎◌, List, [], ◌∷◌, ◌++◌, length, get_or, take, drop, Ok, Err, Result, sym, refl, ap, ◌∙◌, inl, inr, ⊎_elim, arith, length-append}
 use Rattle.std.specs.Int.Digits.{number_from_digits}
 use Rattle.std.proofs.lemmas.Int.Digits.{number_lt}
 use Rattle.std.proofs.ByRecursion.{All-take, All-drop}
@@ -11,9 +11,10 @@ use Rattle.wire.specs.declared.types.IpAddr.{IpAddr}
 use Rattle.wire.specs.declared.types.IpAddr.TheVariants.{V4, V6}
 use Rattle.wire.specs.declared.types.SocketAddr.{SocketAddr}
 use Rattle.wire.specs.Numbers.{Bytes, big_endian}
-use Rattle.wire.specs.Fields.{Reader, then, octets, both}
-use Rattle.wire.specs.Content.{Content, encode_ip, decode_ip, encode_port, decode_port, encode_addr, decode_addr, encode_id, decode_id, encode_time, decode_time, ended, encode_content, decode_retry, decode_validation, decode_content}
-use Rattle.wire.specs.Content.Content.{retry, validation}
+use Rattle.wire.specs.Fields.{Reader, and_then, octets, both}
+use Rattle.wire.specs.Content.{encode_ip, decode_ip, encode_port, decode_port, encode_addr, decode_addr, encode_id, decode_id, encode_time, decode_time, ended, encode_content, decode_retry, decode_validation}
+use Rattle.wire.specs.declared.types.TokenPayload.TheVariants.{Retry, Validation}
+use Rattle.wire.specs.declared.types.TokenPayload.{TokenPayload}
 use Rattle.wire.specs.Laws.{SoundIp, SoundAddr, DecodingUndoesEncoding, EachContentHasOneEncoding, ContentsAreShort}
 use Rattle.wire.proofs.Numbers.{length_big, big_back, big_only}
 use Rattle.wire.proofs.Faithful.{apart, same_ok, then_ok, Only, moved, Faithful, both_faithful}
@@ -30,12 +31,12 @@ one_of false r s a h = inr (refl, h)
 -- the first bytes
 octets_back : (n : ℕ) (o rest : List ℕ) → length o ≡ n → octets n (o ++ rest) ≡ Ok o
 octets_back n o rest l =
-    let t : ltb (length (o ++ rest)) n ≡ false = le-ltb (length (o ++ rest)) n (simp length-append (omega arith)) in
+    let t : nat_lt (length (o ++ rest)) n ≡ false = le-ltb (length (o ++ rest)) n (simp length-append (omega arith)) in
     rw (t, take_at o rest n l)
 
 octets_only : (n : ℕ) (bs o : List ℕ) → octets n bs ≡ Ok o → (bs ≡ o ++ drop n bs) × (length o ≡ n) × (Bytes bs → Bytes o)
 octets_only n bs o h =
-    let p = past (ltb (length bs) n) Short (Ok (take n bs)) o h in
+    let p = past (nat_lt (length bs) n) Short (Ok (take n bs)) o h in
     let l : n ≤ length bs = ltb-false (length bs) n p.0 in
     let e : take n bs ≡ o = same_ok (take n bs) o p.1 in
     (sym (take-append-drop n bs) ∙ ap (λ z. z ++ drop n bs) e, ap length (sym e) ∙ length-take-le n bs l, λ b. rw e at (All-take (λ z. z < 256) n bs b))
@@ -46,18 +47,16 @@ tagged bs o kind n some k h =
     let p = octets_only n (drop 1 bs) o h in
     (drop_more bs 0 0 some ∙ ap (λ z. z ∷ drop 1 bs) k ∙ ap (λ z. kind ∷ z) (p.0 ∙ ap (λ z. o ++ z) (drop-drop n 1 bs)), p.1)
 
-some_bytes : (x : ℕ) (bs : List ℕ) → ltb (length (x ∷ bs)) 1 ≡ false
+some_bytes : (x : ℕ) (bs : List ℕ) → nat_lt (length (x ∷ bs)) 1 ≡ false
 some_bytes x bs = le-ltb (length (x ∷ bs)) 1 (omega arith)
 
 ip_back : (a : IpAddr) (rest : List ℕ) → SoundIp a → decode_ip (encode_ip a ++ rest) ≡ Ok (a, length (encode_ip a))
-unfolding decode_ip
 ip_back (V4 o) rest s = let f = octets_back 4 o rest s in rw (some_bytes 0 (o ++ rest), f, s)
 ip_back (V6 o) rest s = let f = octets_back 16 o rest s in rw (some_bytes 1 (o ++ rest), f, s)
 
 ip_only : (bs : List ℕ) (a : IpAddr) (n : ℕ) → Bytes bs → decode_ip bs ≡ Ok (a, n) → Only SoundIp encode_ip bs a n
-unfolding decode_ip
 ip_only bs a n bytes h =
-    let p = past (ltb (length bs) 1) Short _ (a, n) h in
+    let p = past (nat_lt (length bs) 1) Short _ (a, n) h in
     let some : 1 ≤ length bs = ltb-false (length bs) 1 p.0 in
     ⊎_elim
     (λ q. let u = then_ok (octets 4 (drop 1 bs)) _ (a, n) q.1 in
@@ -68,8 +67,8 @@ ip_only bs a n bytes h =
     let t = tagged bs u.0 1 16 some (eqb-true (get_or bs 0 0) 1 r.0) u.1 in
     moved (record { long = omega (arith, t.1); same = t.0; sound = t.1 }) u.2)
     (λ r. apart (IpKind (get_or bs 0 0)) (a, n) r.1)
-    (one_of (eqb (get_or bs 0 0) 1) _ _ (a, n) q.1))
-    (one_of (eqb (get_or bs 0 0) 0) _ _ (a, n) p.1)
+    (one_of (nat_eq (get_or bs 0 0) 1) _ _ (a, n) q.1))
+    (one_of (nat_eq (get_or bs 0 0) 0) _ _ (a, n) p.1)
 
 ip_faithful : Faithful SoundIp encode_ip decode_ip
 ip_faithful = record { back = ip_back; only = ip_only }
@@ -88,14 +87,12 @@ abbrev Port : ℕ → Type 0
 Port n = n < 65536
 
 port_back : (n : ℕ) (rest : List ℕ) → Port n → decode_port (encode_port n ++ rest) ≡ Ok (n, length (encode_port n))
-unfolding decode_port
 port_back n rest s =
     let f = octets_back 2 (encode_port n) rest (length_big 2 n) in
     let v = big_back 2 n s in
     rw (f, v)
 
 port_only : (bs : List ℕ) (a : ℕ) (n : ℕ) → Bytes bs → decode_port bs ≡ Ok (a, n) → Only Port encode_port bs a n
-unfolding decode_port
 port_only bs a n bytes h =
     let u = then_ok (octets 2 bs) _ (a, n) h in
     let w = wide 2 (number_from_digits 256 u.0) bs u.0 bytes u.1 refl in
@@ -108,7 +105,6 @@ abbrev Seconds : ℕ → Type 0
 Seconds n = n < 4294967296
 
 time_back : (n : ℕ) (rest : List ℕ) → Seconds n → decode_time (encode_time n ++ rest) ≡ Ok (n, length (encode_time n))
-unfolding decode_time
 time_back n rest s =
     let f = octets_back 8 (encode_time n) rest (length_big 8 n) in
     let v = big_back 8 n (omega arith) in
@@ -116,10 +112,9 @@ time_back n rest s =
     rw (f, v, l)
 
 time_only : (bs : List ℕ) (a : ℕ) (n : ℕ) → Bytes bs → decode_time bs ≡ Ok (a, n) → Only Seconds encode_time bs a n
-unfolding decode_time
 time_only bs a n bytes h =
     let u = then_ok (octets 8 bs) _ (a, n) h in
-    let p = past (ltb 4294967295 (number_from_digits 256 u.0)) LateIssue _ (a, n) u.2 in
+    let p = past (nat_lt 4294967295 (number_from_digits 256 u.0)) LateIssue _ (a, n) u.2 in
     let w = wide 8 (number_from_digits 256 u.0) bs u.0 bytes u.1 refl in
     moved (record { long = refl; same = w.0; sound = omega (arith, ltb-false 4294967295 (number_from_digits 256 u.0) p.0) }) p.1
 
@@ -130,7 +125,6 @@ abbrev Id : List ℕ → Type 0
 Id id = length id ≤ 20
 
 id_back : (id rest : List ℕ) → Id id → decode_id (encode_id id ++ rest) ≡ Ok (id, length (encode_id id))
-unfolding decode_id
 id_back id rest s =
     let l = le-ltb 20 (length id) s in
     let f = octets_back (length id) id rest refl in
@@ -138,11 +132,10 @@ id_back id rest s =
     rw (some_bytes (length id) (id ++ rest), l, f, one)
 
 id_only : (bs id : List ℕ) (n : ℕ) → Bytes bs → decode_id bs ≡ Ok (id, n) → Only Id encode_id bs id n
-unfolding decode_id
 id_only bs id n bytes h =
     let k : ℕ = get_or bs 0 0 in
-    let p = past (ltb (length bs) 1) Short _ (id, n) h in
-    let q = past (ltb 20 k) (LongConnectionId k) _ (id, n) p.1 in
+    let p = past (nat_lt (length bs) 1) Short _ (id, n) h in
+    let q = past (nat_lt 20 k) (LongConnectionId k) _ (id, n) p.1 in
     let u = then_ok (octets k (drop 1 bs)) _ (id, n) q.1 in
     let t = tagged bs u.0 k k (ltb-false (length bs) 1 p.0) refl u.1 in
     moved (record {
@@ -176,21 +169,21 @@ validation_faithful = both_faithful ip_faithful time_faithful
 
 -- a whole content: fields, and nothing behind them
 pub back : DecodingUndoesEncoding
-unfolding encode_content decode_content decode_retry decode_validation
-back (retry address id seconds) s =
+unfolding encode_content decode_retry decode_validation
+back (Retry address id seconds) s =
     let fields : List ℕ = encode_addr address ++ (encode_id id ++ encode_time seconds) in
     let f = rw (append-nil fields) at (retry_faithful.back (address, (id, seconds)) [] (s.0, (s.1, s.2))) in
     let e = eq-eqb (length fields) (length fields) refl in
     rw (some_bytes 0 fields, f, e)
-back (validation ip seconds) s =
+back (Validation ip seconds) s =
     let fields : List ℕ = encode_ip ip ++ encode_time seconds in
     let f = rw (append-nil fields) at (validation_faithful.back (ip, seconds) [] s) in
     let e = eq-eqb (length fields) (length fields) refl in
     rw (some_bytes 1 fields, f, e)
 
 -- bytes that end with their fields are these fields
-whole : {A : Type 0} {W : A → Type 0} {E : A → List ℕ} {D : Reader A} → Faithful W E D → (bs : List ℕ) (c : Content) (f : A → Content)
-    → Bytes bs → then (D bs) (λ p. ended bs (f p.0, p.1)) ≡ Ok c → (a : A) × (bs ≡ E a) × W a × (f a ≡ c)
+whole : {A : Type 0} {W : A → Type 0} {E : A → List ℕ} {D : Reader A} → Faithful W E D → (bs : List ℕ) (c : TokenPayload) (f : A → TokenPayload)
+    → Bytes bs → and_then (D bs) (λ p. ended bs (f p.0, p.1)) ≡ Ok c → (a : A) × (bs ≡ E a) × W a × (f a ≡ c)
 whole {A} {W} {E} {D} faithful bs c f bytes h =
     let u = then_ok (D bs) _ c h in
     let a = u.0.0 in
@@ -200,26 +193,26 @@ whole {A} {W} {E} {D} faithful bs c f bytes h =
     (λ q. let l : length bs ≡ n = eqb-true (length bs) n q.0 in
     (a, o.same ∙ ap (λ z. E a ++ z) (drop_all n bs (omega arith)) ∙ append-nil (E a), o.sound, same_ok (f a) c q.1))
     (λ q. apart ExtraBytes c q.1)
-    (one_of (eqb (length bs) n) (Ok (f a)) (Err ExtraBytes) c u.2)
+    (one_of (nat_eq (length bs) n) (Ok (f a)) (Err ExtraBytes) c u.2)
 
 first_byte : (bs fields : List ℕ) (kind : ℕ) → 1 ≤ length bs → get_or bs 0 0 ≡ kind → drop 1 bs ≡ fields → bs ≡ kind ∷ fields
 first_byte bs fields kind some k e = drop_more bs 0 0 some ∙ ap (λ z. z ∷ drop 1 bs) k ∙ ap (λ z. kind ∷ z) e
 
 pub only : EachContentHasOneEncoding
-unfolding encode_content decode_content decode_retry decode_validation
+unfolding encode_content decode_retry decode_validation
 only bs c bytes h =
-    let p = past (ltb (length bs) 1) Short _ c h in
+    let p = past (nat_lt (length bs) 1) Short _ c h in
     let some : 1 ≤ length bs = ltb-false (length bs) 1 p.0 in
     let rest : Bytes (drop 1 bs) = All-drop (λ z. z < 256) 1 bs bytes in
     ⊎_elim
-    (λ q. let w = whole retry_faithful (drop 1 bs) c (λ a. retry a.0 a.1.0 a.1.1) rest q.1 in
+    (λ q. let w = whole retry_faithful (drop 1 bs) c (λ a. Retry a.0 a.1.0 a.1.1) rest q.1 in
     rw (← w.3) (first_byte bs _ 0 some (eqb-true (get_or bs 0 0) 0 q.0) w.1, (w.2.0, w.2.1.0, w.2.1.1)))
     (λ q. ⊎_elim
-    (λ r. let w = whole validation_faithful (drop 1 bs) c (λ a. validation a.0 a.1) rest r.1 in
+    (λ r. let w = whole validation_faithful (drop 1 bs) c (λ a. Validation a.0 a.1) rest r.1 in
     rw (← w.3) (first_byte bs _ 1 some (eqb-true (get_or bs 0 0) 1 r.0) w.1, w.2))
     (λ r. apart (TokenType (get_or bs 0 0)) c r.1)
-    (one_of (eqb (get_or bs 0 0) 1) _ _ c q.1))
-    (one_of (eqb (get_or bs 0 0) 0) _ _ c p.1)
+    (one_of (nat_eq (get_or bs 0 0) 1) _ _ c q.1))
+    (one_of (nat_eq (get_or bs 0 0) 0) _ _ c p.1)
 
 ip_room : (a : IpAddr) → SoundIp a → (5 ≤ length (encode_ip a)) × (length (encode_ip a) ≤ 17)
 ip_room (V4 o) s = (omega arith, omega arith)
@@ -227,14 +220,14 @@ ip_room (V6 o) s = (omega arith, omega arith)
 
 pub short : ContentsAreShort
 unfolding encode_content
-short (retry address id seconds) s =
+short (Retry address id seconds) s =
     let b = ip_room address.ip s.0.0 in
     let p : length (encode_port address.port) ≡ 2 = refl in
     let e = length-append (encode_ip address.ip) (encode_port address.port) in
     let f = length-append (encode_addr address) (encode_id id ++ encode_time seconds) in
     let g = length-append (encode_id id) (encode_time seconds) in
     (omega (arith, b.0, s.1), omega (arith, b.1, s.1))
-short (validation ip seconds) s =
+short (Validation ip seconds) s =
     let b = ip_room ip s.0 in
     let e = length-append (encode_ip ip) (encode_time seconds) in
     (omega (arith, b.0), omega (arith, b.1))

@@ -4,7 +4,7 @@ use Rattle.std.proofs.ByRecursion.{All-drop}
 use Rattle.std.proofs.lemmas.List.{append_assoc, drop_at, drop-drop}
 use Rattle.answers.specs.declared.Fault.{Fault}
 use Rattle.wire.specs.Numbers.{Bytes}
-use Rattle.wire.specs.Fields.{Reader, then, both}
+use Rattle.wire.specs.Fields.{Reader, and_then, both}
 
 -- no answer is both
 pub apart : {A E P : Type 0} (e : E) (a : A) → Err e ≡ Ok a → P
@@ -14,7 +14,7 @@ pub same_ok : {A E : Type 0} (a b : A) → ◌≡◌ {A = Result A E} (Ok a) (Ok
 same_ok a b h = cc
 
 -- what went on to an answer was read before
-pub then_ok : {A B E : Type 0} (r : Result A E) (f : A → Result B E) (b : B) → then r f ≡ Ok b → (a : A) × (r ≡ Ok a) × (f a ≡ Ok b)
+pub then_ok : {A B E : Type 0} (r : Result A E) (f : A → Result B E) (b : B) → and_then r f ≡ Ok b → (a : A) × (r ≡ Ok a) × (f a ≡ Ok b)
 then_ok (Ok a) f b h = (a, refl, h)
 then_ok (Err e) f b h = apart e b h
 

@@ -3,3 +3,4 @@ pub mod Reading
 pub mod Writing
 pub mod Faithful
 pub mod Contents
+pub mod Ids

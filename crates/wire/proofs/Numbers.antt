@@ -3,7 +3,7 @@ use Rattle.std.proofs.Common.{◌≡◌, ℕ, zero, suc, ◌+◌, ◌*◌, ◌/�
 use Rattle.std.specs.Int.Digits.{number_from_digits, number_from_digits_after}
 use Rattle.std.proofs.lemmas.Int.Digits.{number_push}
 use Rattle.std.proofs.ByRecursion.{All-get_or, All-take}
-use Rattle.std.proofs.lemmas.List.{at_drop_more, at_drop_all, take_more, take_all, length_push, length-take-le}
+use Rattle.std.proofs.lemmas.List.{at_drop_more, take_more, take_all, length_push, length-take-le}
 use Rattle.wire.specs.Numbers.{Bytes, big_endian, little_endian, from_little_endian}
 
 pub length_big : (width n : ℕ) → length (big_endian width n) ≡ width
@@ -36,14 +36,6 @@ big_only (suc width) bs l b =
 -- the library reads eight bytes as such a number
 more : (before : ℕ) (o : List ℕ) (i : ℕ) → i < length o → number_from_digits_after 256 before (drop i o) ≡ number_from_digits_after 256 (before * 256 + get_or o i 0) (drop (i + 1) o)
 more before o i h = at_drop_more (number_from_digits_after 256 before) o i 0 h
-
-pub read_8 : (o : List ℕ) → length o ≡ 8
-    → get_or o 0 0 * 72057594037927936 + get_or o 1 0 * 281474976710656 + get_or o 2 0 * 1099511627776 + get_or o 3 0 * 4294967296 + get_or o 4 0 * 16777216 + get_or o 5 0 * 65536 + get_or o 6 0 * 256 + get_or o 7 0 ≡ number_from_digits 256 o
-read_8 o l =
-    let e = more 0 o 0 (omega arith) ∙ more _ o 1 (omega arith) ∙ more _ o 2 (omega arith) ∙ more _ o 3 (omega arith)
-    ∙ more _ o 4 (omega arith) ∙ more _ o 5 (omega arith) ∙ more _ o 6 (omega arith) ∙ more _ o 7 (omega arith)
-    ∙ at_drop_all (number_from_digits_after 256 _) o 8 (omega arith) in
-    omega (arith, e)
 
 pub length_little : (width n : ℕ) → length (little_endian width n) ≡ width
 length_little zero n = refl

@@ -1,13 +1,12 @@
 -- From the steps of a reader to the definition of what it reads.
-use Rattle.std.proofs.Common.{◌≡◌, ℕ, ◌+◌, ◌-◌, ◌≤◌, Bool, true, false, cond, eqb, List, length, get_or, take, drop, IsErrAnd, IfOk, Ok, Err, Result, sym, refl, ap, ◌∙◌, arith, length-drop}
-use Rattle.std.proofs.lemmas.Bool.{le-ltb}
+use Rattle.std.proofs.Common.{◌≡◌, ℕ, ◌+◌, ◌-◌, ◌≤◌, Bool, true, false, cond, nat_eq, List, length, take, drop, IsErrAnd, IfOk, Ok, Err, Result, sym, refl, ap, ◌∙◌, arith, length-drop}
 use Rattle.std.proofs.lemmas.Bool.Decides.{nat_tests}
 use Rattle.std.proofs.lemmas.List.{take_rest}
 use Rattle.std.proofs.lemmas.Result.{err_from_is_err_and}
 use Rattle.answers.specs.declared.Fault.{Fault}
 use Rattle.answers.specs.declared.Fault.TheVariants.{ExtraBytes}
 use Rattle.wire.specs.Fields.{Reader, both}
-use Rattle.wire.specs.Content.{decode_retry, decode_validation, decode_content, ended}
+use Rattle.wire.specs.Content.{ended}
 use Rattle.wire.proofs.Faithful.{apart}
 
 -- what the exit of a `?` answers: the fault that was met, unaltered
@@ -47,24 +46,14 @@ module _ {A : Type 0} (x : A) where
   split_err false e f h = let s : f ≡ e = cc in ap Err (sym s)
 
   pub ended_ok : (bs : List ℕ) (n : ℕ) → ◌≡◌ {A = Result (Unit {0}) Fault} (Ok tt) (ended bs (tt, n)) → ended bs (x, n) ≡ Ok x
-  ended_ok bs n h = split_ok (eqb (length bs) n) ExtraBytes (sym h)
+  ended_ok bs n h = split_ok (nat_eq (length bs) n) ExtraBytes (sym h)
 
   pub ended_stops : (bs : List ℕ) (n : ℕ) (f : Fault) → ◌≡◌ {A = Result (Unit {0}) Fault} (Err f) (ended bs (tt, n)) → ended bs (x, n) ≡ Err f
-  ended_stops bs n f h = split_err (eqb (length bs) n) ExtraBytes f h
+  ended_stops bs n f h = split_err (nat_eq (length bs) n) ExtraBytes f h
 
 -- what is left ends where the whole does
 pub ended-past : {A : Type 0} (x : A) (bs : List ℕ) (n m : ℕ) → n ≤ length bs → ended (take (length bs - n) (drop n bs)) (x, m) ≡ ended bs (x, n + m)
 ended-past x bs n m h =
     let l : length (take (length bs - n) (drop n bs)) ≡ length bs - n = ap length (take_rest bs n) ∙ length-drop n bs in
-    let e : eqb (length bs - n) m ≡ eqb (length bs) (n + m) = grind (arith, nat_tests) in
+    let e : nat_eq (length bs - n) m ≡ nat_eq (length bs) (n + m) = grind (arith, nat_tests) in
     rw (l, e)
-
--- a content by its first byte
-module _ (bs : List ℕ) (some : 1 ≤ length bs) where
-  pub retry_read : get_or bs 0 0 ≡ 0 → decode_retry (take (length bs - 1) (drop 1 bs)) ≡ decode_content bs
-  unfolding decode_content
-  retry_read kind = let l = le-ltb (length bs) 1 some in rw (l, kind, take_rest bs 1)
-
-  pub validation_read : get_or bs 0 0 ≡ 1 → decode_validation (take (length bs - 1) (drop 1 bs)) ≡ decode_content bs
-  unfolding decode_content
-  validation_read kind = let l = le-ltb (length bs) 1 some in rw (l, kind, take_rest bs 1)

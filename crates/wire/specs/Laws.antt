@@ -1,11 +1,12 @@
 -- The laws of contents: each has exactly one encoding, which decoding undoes.
-use Rattle.std.specs.Prelude.{◌≡◌, ℕ, ◌<◌, ◌≤◌, List, length, Ok}
+use Rattle.std.specs.Prelude.{◌≡◌, ℕ, ◌<◌, ◌≤◌, Bool, Decides, List, length, Ok}
 use Rattle.wire.specs.declared.types.IpAddr.{IpAddr}
 use Rattle.wire.specs.declared.types.IpAddr.TheVariants.{V4, V6}
 use Rattle.wire.specs.declared.types.SocketAddr.{SocketAddr}
 use Rattle.wire.specs.Numbers.{Bytes}
-use Rattle.wire.specs.Content.{Content, encode_content, decode_content}
-use Rattle.wire.specs.Content.Content.{retry, validation}
+use Rattle.wire.specs.declared.types.TokenPayload.{TokenPayload}
+use Rattle.wire.specs.declared.types.TokenPayload.TheVariants.{Retry, Validation}
+use Rattle.wire.specs.Content.{encode_content, decode_content}
 
 -- what the types of the code say of an IP, an address and a content
 abbrev pub SoundIp : IpAddr → Type 0
@@ -15,18 +16,22 @@ SoundIp (V6 o) = length o ≡ 16
 abbrev pub SoundAddr : SocketAddr → Type 0
 SoundAddr a = SoundIp a.ip × (a.port < 65536)
 
-abbrev pub Sound : Content → Type 0
-Sound (retry address id seconds) = SoundAddr address × (length id ≤ 20) × (seconds < 4294967296)
-Sound (validation ip seconds) = SoundIp ip × (seconds < 4294967296)
+abbrev pub Sound : TokenPayload → Type 0
+Sound (Retry address id seconds) = SoundAddr address × (length id ≤ 20) × (seconds < 4294967296)
+Sound (Validation ip seconds) = SoundIp ip × (seconds < 4294967296)
+
+-- a test of equality tells whether two values are the same
+abbrev pub TellsSameness : {A : Type 0} → (A → A → Bool) → Type 0
+TellsSameness {A = A} E = (a b : A) → Decides (E a b) (a ≡ b)
 
 -- decoding gives back every encoded content
 abbrev pub DecodingUndoesEncoding : Type 0
-DecodingUndoesEncoding = (c : Content) → Sound c → decode_content (encode_content c) ≡ Ok c
+DecodingUndoesEncoding = (c : TokenPayload) → Sound c → decode_content (encode_content c) ≡ Ok c
 
 -- bytes that decode are the encoding of what they decode to
 abbrev pub EachContentHasOneEncoding : Type 0
-EachContentHasOneEncoding = (bs : List ℕ) (c : Content) → Bytes bs → decode_content bs ≡ Ok c → (bs ≡ encode_content c) × Sound c
+EachContentHasOneEncoding = (bs : List ℕ) (c : TokenPayload) → Bytes bs → decode_content bs ≡ Ok c → (bs ≡ encode_content c) × Sound c
 
 -- a content has 14 to 49 bytes
 abbrev pub ContentsAreShort : Type 0
-ContentsAreShort = (c : Content) → Sound c → (14 ≤ length (encode_content c)) × (length (encode_content c) ≤ 49)
+ContentsAreShort = (c : TokenPayload) → Sound c → (14 ≤ length (encode_content c)) × (length (encode_content c) ≤ 49)

@@ -3,3 +3,4 @@ pub mod Fields
 pub mod Content
 pub mod Laws
 pub mod Sameness
+pub mod Ids

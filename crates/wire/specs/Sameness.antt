@@ -1,15 +1,13 @@
--- The tests of equal IPs, addresses and ids tell just that.
+-- The tests of equal IPs and addresses tell just that.
 use Rattle.std.proofs.Common.{◌≡◌, ◌==◌, ℕ, Bool, Decides, sym, ap, ap₂, ◌∙◌, arith}
-use Rattle.std.specs.Str.{bytes_eq}
-use Rattle.std.specs.Cmp.{IsPartialEquivalence, both_ways, on_per}
+use Rattle.std.specs.Cmp.{IsPartialEquivalence, both_ways}
 use Rattle.std.proofs.lemmas.Bool.{and_parts, and_from}
 use Rattle.std.proofs.lemmas.Slice.Eq.{bytes_eq-Decides}
 use Rattle.std.proofs.lemmas.Bool.Decides.{Decides-eqb}
 use Rattle.wire.specs.declared.types.IpAddr.{IpAddr}
 use Rattle.wire.specs.declared.types.IpAddr.TheVariants.{V4, V6}
 use Rattle.wire.specs.declared.types.SocketAddr.{SocketAddr}
-use Rattle.wire.specs.declared.types.ConnectionId.{ConnectionId}
-use Rattle.wire.specs.Content.{same_ip, same_addr, id_bytes}
+use Rattle.wire.specs.Content.{same_ip, same_addr}
 
 pub ip_tells : (a b : IpAddr) → Decides (same_ip a b) (a ≡ b)
 ip_tells (V4 o) (V4 p) = let d = bytes_eq-Decides o p in (λ e. ap V4 (d.0 e), λ e. d.1 (cc))
@@ -38,6 +36,3 @@ addr_tells a b = (
 
 pub same_addr_laws : IsPartialEquivalence same_addr
 same_addr_laws = told_laws same_addr addr_tells
-
-pub same_id_laws : IsPartialEquivalence (λ (a b : ConnectionId). bytes_eq (id_bytes a) (id_bytes b))
-same_id_laws = on_per id_bytes (told_laws bytes_eq bytes_eq-Decides)

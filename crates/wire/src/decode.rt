@@ -1,23 +1,17 @@
 ghost use Rattle.std.specs.Prelude.{◌≡◌, ◌≤◌, length, IfOk};
 ghost use Rattle.std.specs.Int.Digits.{number_from_digits};
 ghost use Rattle.wire.specs.Fields.{octets as octets_of};
-ghost use Rattle.wire.specs.Content.{decode_ip, decode_port, decode_addr, decode_id, decode_time, decode_retry, decode_validation, decode_content, ended as ended_at, id_read_of, content_of};
+ghost use Rattle.wire.specs.Content.{decode_ip, decode_port, decode_addr, decode_id, decode_time, decode_retry, decode_validation, decode_content, ended as ended_at};
 
 use crate::types::{ConnectionId, IpAddr, SocketAddr, TokenPayload};
 use crate::{IPV4, IPV6, MAX_CID_SIZE, RETRY, VALIDATION};
 use answers::Fault;
 
-// The last second that an issue time can be.
-const LAST_ISSUE: u64 = 4_294_967_295;
-
 // The first `N` bytes.
 fn octets<const N: usize>(bytes: &[u8]) -> Result<[u8; N], Fault>
     ensures { result ≡ octets_of N bytes.now }
 {
-    match bytes.first_chunk::<N>() {
-        Some(chunk) => Ok(*chunk),
-        None => Err(Fault::Short),
-    }
+    bytes.first_chunk::<N>().copied().ok_or(Fault::Short)
 }
 
 // The number that eight bytes write, the highest first.
@@ -32,12 +26,12 @@ fn decode_ip(bytes: &[u8]) -> Result<(IpAddr, usize), Fault>
     ensures value { result ≡ decode_ip bytes.now }
     ensures taken { IfOk result (λ p. p.1 ≤ length bytes.now) }
 {
-    if bytes.is_empty() {
+    let Some((kind, rest)) = bytes.split_first() else {
         return Err(Fault::Short);
-    }
-    match bytes[0] {
-        IPV4 => Ok((IpAddr::V4(octets(&bytes[1..])?), 5)),
-        IPV6 => Ok((IpAddr::V6(octets(&bytes[1..])?), 17)),
+    };
+    match *kind {
+        IPV4 => Ok((IpAddr::V4(octets(rest)?), 5)),
+        IPV6 => Ok((IpAddr::V6(octets(rest)?), 17)),
         kind => Err(Fault::IpKind(kind)),
     }
 }
@@ -62,29 +56,28 @@ fn decode_unix_secs(bytes: &[u8]) -> Result<(u32, usize), Fault>
     ensures value { result ≡ decode_time bytes.now }
     ensures taken { IfOk result (λ p. p.1 ≤ length bytes.now) }
 {
-    let seconds = be_u64(octets(bytes)?);
-    if seconds > LAST_ISSUE {
+    let Ok(seconds) = u32::try_from(be_u64(octets(bytes)?)) else {
         return Err(Fault::LateIssue);
-    }
-    Ok((seconds as u32, 8))
+    };
+    Ok((seconds, 8))
 }
 
 impl ConnectionId {
     pub(crate) fn decode_long(bytes: &[u8]) -> Result<(ConnectionId, usize), Fault>
-        ensures value { id_read_of result ≡ decode_id bytes.now }
+        ensures value { result ≡ decode_id bytes.now }
         ensures taken { IfOk result (λ p. p.1 ≤ length bytes.now) }
     {
-        if bytes.is_empty() {
+        let Some((first, rest)) = bytes.split_first() else {
             return Err(Fault::Short);
-        }
-        let len = bytes[0] as usize;
+        };
+        let len = *first as usize;
         if len > MAX_CID_SIZE {
-            return Err(Fault::LongConnectionId(bytes[0]));
+            return Err(Fault::LongConnectionId(*first));
         }
-        if bytes.len() < 1 + len {
+        if rest.len() < len {
             return Err(Fault::Short);
         }
-        Ok((ConnectionId::copied(&bytes[1..1 + len]), 1 + len))
+        Ok((ConnectionId::copied(&rest[0..len]), 1 + len))
     }
 }
 
@@ -100,7 +93,7 @@ fn ended(bytes: &[u8], taken: usize) -> Result<(), Fault>
 
 // The fields of a retry token, and nothing behind them.
 fn decode_retry(bytes: &[u8]) -> Result<TokenPayload, Fault>
-    ensures { content_of result ≡ decode_retry bytes.now }
+    ensures { result ≡ decode_retry bytes.now }
 {
     let (address, address_len) = decode_addr(bytes)?;
     let rest = &bytes[address_len..];
@@ -116,7 +109,7 @@ fn decode_retry(bytes: &[u8]) -> Result<TokenPayload, Fault>
 
 // The fields of a validation token, and nothing behind them.
 fn decode_validation(bytes: &[u8]) -> Result<TokenPayload, Fault>
-    ensures { content_of result ≡ decode_validation bytes.now }
+    ensures { result ≡ decode_validation bytes.now }
 {
     let (ip, ip_len) = decode_ip(bytes)?;
     let (issued, time_len) = decode_unix_secs(&bytes[ip_len..])?;
@@ -127,14 +120,14 @@ fn decode_validation(bytes: &[u8]) -> Result<TokenPayload, Fault>
 impl TokenPayload {
     // What the bytes of a content say.
     pub fn decode(bytes: &[u8]) -> Result<TokenPayload, Fault>
-        ensures { content_of result ≡ decode_content bytes.now }
+        ensures { result ≡ decode_content bytes.now }
     {
-        if bytes.is_empty() {
+        let Some((kind, fields)) = bytes.split_first() else {
             return Err(Fault::Short);
-        }
-        match bytes[0] {
-            RETRY => decode_retry(&bytes[1..]),
-            VALIDATION => decode_validation(&bytes[1..]),
+        };
+        match *kind {
+            RETRY => decode_retry(fields),
+            VALIDATION => decode_validation(fields),
             kind => Err(Fault::TokenType(kind)),
         }
     }

@@ -1,13 +1,14 @@
 ghost use Rattle.std.specs.Prelude.{◌≡◌, ◌+◌, ◌≤◌, length};
 ghost use Rattle.answers.specs.Buffers.{Put, Written};
-ghost use Rattle.wire.specs.Content.Content.{retry, validation};
-ghost use Rattle.wire.specs.Content.{encode_ip, encode_addr, encode_id, encode_time, encode_content, id_bytes, meant};
+ghost use Rattle.wire.specs.declared.types.TokenPayload.TheVariants.{Retry, Validation};
+ghost use Rattle.wire.specs.Content.{encode_ip, encode_addr, encode_id, encode_time, encode_content};
 
 use crate::types::{ConnectionId, IpAddr, SocketAddr, TokenPayload};
 use crate::{IPV4, IPV6, RETRY, VALIDATION};
 use answers::Refusal;
 
-// Each writer puts its bytes into the buffer from a place on, and answers where they end.
+// Each writer puts its bytes into the buffer from a place on, and answers where they end. The two stay apart: a struct
+// that held the buffer would need a clause more in each contract, that it holds the same buffer still.
 fn put(bytes: &[u8], at: usize, out: &mut [u8]) -> usize
     requires { at + length bytes.now ≤ length out.old }
     ensures { Put bytes.now at out.old out.new result }
@@ -50,11 +51,12 @@ fn encode_unix_secs(seconds: u32, at: usize, out: &mut [u8]) -> usize
 
 impl ConnectionId {
     fn encode_long(&self, at: usize, out: &mut [u8]) -> usize
-        requires { at + length (encode_id (id_bytes self.now)) ≤ length out.old }
-        ensures { Put (encode_id (id_bytes self.now)) at out.old out.new result }
+        requires { at + length (encode_id self.now) ≤ length out.old }
+        ensures { Put (encode_id self.now) at out.old out.new result }
     {
-        let at = put(&[self.len], at, out);
-        put(self.as_slice(), at, out)
+        let id = self.as_slice();
+        let at = put(&[id.len() as u8], at, out);
+        put(id, at, out)
     }
 }
 
@@ -64,8 +66,8 @@ fn encode_retry(
     issued: u32,
     out: &mut [u8],
 ) -> usize
-    requires { length (encode_content (retry address (id_bytes orig_dst_cid) issued)) ≤ length out.old }
-    ensures { Put (encode_content (retry address (id_bytes orig_dst_cid) issued)) 0 out.old out.new result }
+    requires { length (encode_content (Retry address orig_dst_cid issued)) ≤ length out.old }
+    ensures { Put (encode_content (Retry address orig_dst_cid issued)) 0 out.old out.new result }
 {
     let fields = put(&[RETRY], 0, out);
     let id = encode_addr(address, fields, out);
@@ -74,8 +76,8 @@ fn encode_retry(
 }
 
 fn encode_validation(ip: IpAddr, issued: u32, out: &mut [u8]) -> usize
-    requires { length (encode_content (validation ip issued)) ≤ length out.old }
-    ensures { Put (encode_content (validation ip issued)) 0 out.old out.new result }
+    requires { length (encode_content (Validation ip issued)) ≤ length out.old }
+    ensures { Put (encode_content (Validation ip issued)) 0 out.old out.new result }
 {
     let fields = put(&[VALIDATION], 0, out);
     let time = encode_ip(ip, fields, out);
@@ -96,7 +98,7 @@ impl IpAddr {
 
 impl TokenPayload {
     fn encoded_len(&self) -> usize
-        ensures { result ≡ length (encode_content (meant self.now)) }
+        ensures { result ≡ length (encode_content self.now) }
     {
         match self {
             TokenPayload::Retry {
@@ -110,7 +112,7 @@ impl TokenPayload {
 
     // Writes the content from the front of `out` and answers its length; a shorter buffer is refused.
     pub fn encode(&self, out: &mut [u8]) -> Result<usize, Refusal>
-        ensures { Written (encode_content (meant self.now)) out.old out.new result }
+        ensures { Written (encode_content self.now) out.old out.new result }
     {
         if out.len() < self.encoded_len() {
             return Err(Refusal::SmallBuffer);

@@ -1,12 +1,11 @@
 #![tactic(auto)]
 
 ghost use Rattle.std.specs.Prelude.{◌≡◌, ◌<◌, ◌≤◌, length};
-ghost use Rattle.wire.specs.Content.{id_bytes, id_from, id_of, meant};
-ghost use Rattle.wire.specs.Laws.{SoundIp, Sound, DecodingUndoesEncoding, EachContentHasOneEncoding, ContentsAreShort};
+ghost use Rattle.wire.specs.Content.{id_from};
+ghost use Rattle.wire.specs.Laws.{SoundIp, Sound, TellsSameness, DecodingUndoesEncoding, EachContentHasOneEncoding, ContentsAreShort};
 
 mod decode;
 mod encode;
-mod equal;
 #[cfg(test)]
 mod tests;
 mod types;
@@ -14,12 +13,13 @@ mod types;
 use answers::Refusal;
 pub use types::{ConnectionId, IpAddr, SocketAddr, TokenPayload};
 
-// The first byte of a content.
+// The first byte of a content. A number, not an enum: its kinds are those of `TokenPayload`, and it stands only where a
+// content is read or written.
 pub(crate) const RETRY: u8 = 0;
 
 pub(crate) const VALIDATION: u8 = 1;
 
-// The first byte of an IP.
+// The first byte of an IP, whose kinds are those of `IpAddr`.
 pub(crate) const IPV4: u8 = 0;
 
 pub(crate) const IPV6: u8 = 1;
@@ -30,7 +30,7 @@ pub(crate) const MAX_CID_SIZE: usize = 20;
 impl ConnectionId {
     // The id of these bytes, at most 20.
     pub fn new(id: &[u8]) -> Result<ConnectionId, Refusal>
-        ensures { id_of result ≡ id_from id.now }
+        ensures { result ≡ id_from id.now }
     {
         if id.len() > MAX_CID_SIZE {
             return Err(Refusal::LongConnectionId);
@@ -41,7 +41,7 @@ impl ConnectionId {
     // The id of these bytes, which a caller knows to be at most 20.
     pub(crate) fn copied(id: &[u8]) -> ConnectionId
         requires { length id.now ≤ 20 }
-        ensures { id_bytes result ≡ id.now }
+        ensures { result ≡ id.now }
     {
         let mut bytes = [0; MAX_CID_SIZE];
         bytes[0..id.len()].copy_from_slice(id);
@@ -52,7 +52,7 @@ impl ConnectionId {
     }
 
     pub fn as_slice(&self) -> &[u8]
-        ensures value { result.now ≡ id_bytes self.now }
+        ensures value { result.now ≡ self.now }
         ensures bound { length result.now ≤ 20 }
     {
         &self.bytes[0..self.len as usize]
@@ -61,7 +61,7 @@ impl ConnectionId {
 
 // Every value of the type is a content that can be encoded.
 pub fn payloads_are_sound(payload: &TokenPayload)
-    ensures { Sound (meant payload.now) }
+    ensures { Sound payload.now }
 {
     match payload {
         TokenPayload::Retry {
@@ -88,6 +88,14 @@ fn numbers_fit(port: u16, seconds: u32)
 // Every value of the type has as many octets as its kind.
 pub fn ips_are_sound(ip: IpAddr)
     ensures { SoundIp ip }
+{}
+
+// Two IPs, addresses or connection ids are equal just if they are the same.
+#[tactic(auto, using(crate::proofs::Ids::ids_tell))]
+pub fn equal_values_are_the_same()
+    ensures ips { TellsSameness (⟦<IpAddr as PartialEq>⟧.eq) }
+    ensures addresses { TellsSameness (⟦<SocketAddr as PartialEq>⟧.eq) }
+    ensures ids { TellsSameness (⟦<ConnectionId as PartialEq>⟧.eq) }
 {}
 
 // Decoding gives back every encoded content.

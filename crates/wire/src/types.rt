@@ -1,26 +1,43 @@
-ghost use Rattle.std.specs.Prelude.{◌≡◌, ◌-◌, ◌≤◌, drop, replicate};
+use crate::MAX_CID_SIZE;
+use std::marker::Model;
 
 // An IP: its octets, the first one first.
-#[derive(Clone, Copy, Debug)]
+#[derive(Clone, Copy, PartialEq, Eq, Debug)]
 pub enum IpAddr {
     V4([u8; 4]),
     V6([u8; 16]),
 }
 
 // An IP and a port, and nothing else: no flow label, no scope.
-#[derive(Clone, Copy, Debug)]
+#[derive(Clone, Copy, Debug, PartialEq, Eq)]
 pub struct SocketAddr {
     pub ip: IpAddr,
     pub port: u16,
 }
 
-// A connection id of at most 20 bytes; the rest of the array is zero.
-#[derive(Clone, Copy)]
+// A connection id of at most 20 bytes; the rest of the array is zero. A buffer with a length beside, as it is copied
+// and takes no heap.
+#[derive(Clone, Copy, PartialEq, Eq)]
 pub struct ConnectionId {
     pub(crate) len: u8,
-    pub(crate) bytes: [u8; 20],
-    ghost short: { len ≤ 20 },
-    ghost blank: { drop len bytes ≡ replicate (20 - len) 0 },
+    pub(crate) bytes: [u8; MAX_CID_SIZE],
+}
+
+// In clauses a connection id is its bytes.
+impl Model for ConnectionId {
+    ghost use Rattle.std.specs.Prelude.{ℕ, List, take};
+
+    ghost Value = { List ℕ };
+
+    ghost view = { λ id. take id.len id.bytes };
+
+    ghost use Rattle.wire.specs.Ids.{Laid, laid_out, laid_out_again};
+
+    ghost invariant = { Laid };
+
+    ghost inverse = { laid_out };
+
+    ghost inverse_ok = { laid_out_again };
 }
 
 // What a token says; an issue time is in whole seconds since 1970.

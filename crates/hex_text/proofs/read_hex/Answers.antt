@@ -1,23 +1,26 @@
-use Rattle.std.proofs.Common.{◌≡◌, ℕ, ◌+◌, ◌*◌, List, [], ◌∷◌, ◌++◌, drop, vec_items, sym, refl, ap, ◌∙◌, arith}
+use Rattle.std.proofs.Common.{◌≡◌, ℕ, ◌∷◌, ◌++◌, List, [], drop, vec_items, sym, refl, ap, ◌∙◌, arith, rules}
 use Rattle.std.proofs.lemmas.Slice.{pushed}
+use Rattle.std.proofs.lemmas.List.{take_rest}
 use Rattle.hex_text.specs.Digits.{unhex}
-use Rattle.hex_text.proofs.Reading.{before, odd_none, read_more, read_none, read_all}
+use Rattle.hex_text.proofs.Reading.{before, read_more, read_none, read_all, one_left}
 use Rattle.hex_text.proofs.read_hex.Goals as goal
 
-pub returns-then-text-ne0 : goal.returns-then-text-ne0
-returns-then-text-ne0 c = sym (odd_none c.args.text.now (omega arith))
+pub returns-in_default-pair : goal.returns-in_default-pair
+returns-in_default-pair c =
+    read_none c.args.text.now (vec_items c.loop-left.bytes) c.loop-left.left.now c.loop-left.invariant (omega arith) (sym c.in_default-pair.ensures)
 
-pub returns-in-None : goal.returns-in-None
-returns-in-None c = read_none c.args.text.now (vec_items c.loop-i.bytes) c.loop-i.i (omega arith) (sym c.in-None.ensures) c.loop-i.invariant
-
-pub loop-i-preserved : goal.loop-i-preserved
-loop-i-preserved c =
-    let text = c.args.text.now in
-    let xs = vec_items c.loop-i.bytes in
+pub loop-left-preserved : goal.loop-left-preserved
+loop-left-preserved c =
+    let xs = vec_items c.loop-left.bytes in
+    let left = c.loop-left.left.now in
     let b = c.in-Some.byte in
-    let items : vec_items c.push.new.self ≡ xs ++ (b ∷ []) = pushed (b ∷ []) refl c.in_ok-push-in-Some.was c.push.ensures.items in
-    ap (λ (ys : List ℕ). before ys (unhex (drop (2 * (c.loop-i.i + 1)) text))) items
-    ∙ read_more text xs c.loop-i.i b (omega arith) (sym c.in-Some.ensures) c.loop-i.invariant
+    let items : vec_items c.push.new.self ≡ xs ++ (b ∷ []) = pushed (b ∷ []) refl c.in_ok-push.was c.push.ensures.items in
+    ap (before (vec_items c.push.new.self)) (ap unhex (take_rest left 2))
+    ∙ ap (λ (ys : List ℕ). before ys (unhex (drop 2 left))) items
+    ∙ read_more c.args.text.now xs left c.loop-left.invariant b (omega arith) (sym c.in-Some.ensures)
+
+pub returns-then-is_empty : goal.returns-then-is_empty
+returns-then-is_empty c = read_all c.args.text.now (vec_items c.loop-left.bytes) c.loop-left.left.now (search rules) c.loop-left.invariant
 
 pub returns : goal.returns
-returns c = read_all c.args.text.now (vec_items c.loop-i.bytes) c.loop-i.i (omega arith) c.loop-i.invariant
+returns c = one_left c.args.text.now (vec_items c.loop-left.bytes) c.loop-left.left.now (omega arith) (search rules) c.loop-left.invariant

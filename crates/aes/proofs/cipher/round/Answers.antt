@@ -4,4 +4,4 @@ use Rattle.aes.proofs.cipher.round.Goals as goal
 
 pub returns : goal.returns
 unfolding round
-returns c = c.add_round_key.ensures ∙ ap (add_round_key c.args.keys.now c.args.n) c.mix.ensures
+returns c = c.add_round_key.ensures ∙ ap (add_round_key c.args.key.now 0) c.mix.ensures

@@ -1,8 +1,8 @@
-use Rattle.std.proofs.Common.{arith}
+use Rattle.std.proofs.Common.{zero-add, arith}
+use Rattle.std.proofs.lemmas.List.FromFn.{get_or-map-range_with_len}
 use Rattle.aes.specs.Field.{gmul, inverse, affine, sub}
-use Rattle.aes.proofs.Entries.{entry}
 use Rattle.aes.proofs.tables.substitute.Goals as goal
 
 pub returns : goal.returns
 unfolding gmul inverse affine sub
-returns c = entry sub 0 256 c.args.x (omega arith)
+returns c = get_or-map-range_with_len sub 0 256 c.args.x c.args.x 0 (omega arith) (zero-add _)

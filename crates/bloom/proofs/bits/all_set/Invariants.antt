@@ -1,6 +1,10 @@
-use Rattle.std.proofs.Common.{◌≡◌, ◌<◌, true}
-use Rattle.bloom.specs.Bits.{position, all_set}
+use Rattle.std.proofs.Common.{◌≡◌, ◌*◌, ◌≤◌, length}
+use Rattle.std.specs.List.{list_all}
+use Rattle.bloom.specs.Bits.{bit, ahead}
 use Rattle.bloom.proofs.bits.all_set.Given as goal
 
-abbrev pub invariant-loop-i : goal.invariant-loop-i
-invariant-loop-i l = (l.at ≡ position l.bits l.f l._i) × (l.at < l.bits) × (all_set l.words l.bits l.f l._i ≡ true)
+abbrev pub invariant-loop-at : goal.invariant-loop-at
+invariant-loop-at l =
+    (goal.iterator-loop-at).can_next l.at-iterator × (goal.iterator-loop-at).is_finite l.at-iterator × (l.at-iterator.bits ≤ 64 * length l.words)
+    × (list_all (bit l.words) (ahead l.at-iterator.bits l.at-iterator.step l.at-iterator.at l.at-iterator.left)
+    ≡ list_all (bit l.words) (ahead l.fn.positions.bits l.fn.positions.step l.fn.positions.at l.fn.positions.left))

@@ -1,12 +1,7 @@
-use Rattle.std.proofs.Common.{◌≡◌, ℕ, ◌+◌, ◌-◌, ◌*◌, take, drop, refl, ap, ◌∙◌, arith}
+use Rattle.std.proofs.Common.{◌≡◌, ◌-◌, min, length, refl, ap, ◌∙◌, arith}
 use Rattle.ccm.specs.Masks.{block_laid}
 use Rattle.ccm.proofs.mode.content_block.Goals as goal
 
 pub returns : goal.returns
-returns c =
-    let content = c.args.content.now in
-    let n = c.args.n in
-    let len = c.min-len.result in
-    block_laid 16 content c.copy_from_slice.new.self n len refl
-    (c.copy_from_slice.ensures.after ∙ ap (λ (k : ℕ). take k (drop (16 * n) content)) (let e : 16 * n + len - 16 * n ≡ len = omega arith in e))
-    c.min-len.ensures
+returns c = block_laid 16 c.args.part.now c.copy_from_slice.new.self 0 c.min-len.result refl c.copy_from_slice.ensures.after
+    (c.min-len.ensures ∙ ap (λ k. min k 16) (let e : length c.args.part.now ≡ length c.args.part.now - 0 = omega arith in e))

@@ -1,4 +1,4 @@
-use Rattle.std.proofs.Common.{◌≡◌, length, get_or, sym, ap, ◌∙◌, arith}
+use Rattle.std.proofs.Common.{◌≡◌, length, sym, ap, ◌∙◌, arith, slice_index}
 use lib.Bits.{bit_xor}
 use lib.Seq.{paste}
 use Rattle.std.proofs.lemmas.List.Edits.{paste_none}
@@ -17,8 +17,8 @@ loop-i-preserved c =
     let m = c.args.bytes.now in
     let i = c.loop-i.i in
     let l = length-masked E m in
-    let v : bit_xor (get_or m i 0) (get_or c.key_stream-stream.result i 0) ≡ get_or (masked E m) i 0 =
-    ap (bit_xor (get_or m i 0)) (c.key_stream-stream.ensures i (omega arith)) ∙ sym (masked-at E m i (omega arith)) in
+    let v : bit_xor (slice_index m i) (slice_index c.key_stream-stream.result i) ≡ slice_index (masked E m) i =
+    ap (bit_xor (slice_index m i)) (c.key_stream-stream.ensures i (omega arith)) ∙ sym (masked-at E m i (omega arith)) in
     front_more c.args.out.now c.loop-i.out (masked E m) i _ c.loop-i.invariant (omega arith) (omega arith) v
 
 pub returns : goal.returns

@@ -1,7 +1,6 @@
 use Rattle.std.proofs.Common.{◌≡◌, Ok, Err, sym, refl, ap, ◌∙◌}
 use Rattle.std.proofs.lemmas.Result.{err_from_is_err_and}
-use Rattle.wire.specs.Content.{id_bytes}
-use Rattle.gate.specs.Calls.{Terms, Arrival, arrival_of, judged_by, outcome, told, owed, working_after}
+use Rattle.gate.specs.Calls.{Terms, Arrival, arrival_of, judged_by, told, owed, working_after}
 use Rattle.gate.specs.Successions.{Unmoved, terms}
 use Rattle.gate.specs.Successions.Call.{arriving}
 use Rattle.gate.proofs.Stepping.{admits, step_refused, step-admitted, adds}
@@ -32,19 +31,19 @@ returns g c =
     let t : Terms = terms image opened gate in
     let token = c.args.token.now in
     let d = c.args.destination.now in
-    let id = id_bytes c.in_ok-here.here in
+    let id = c.in_ok-here.here in
     let x : Arrival = arrival_of token d c.args.address c.args.clock c.args.working.now in
     let h = c.in_ok-here.ensures.id in
     let e : id ≡ d = admits x.working x.clock d id h in
     let gate' = c.decide-verdict.new.self in
     let m = c.decide-verdict.ensures.kept in
-    let o = outcome c.decide-verdict.result in
+    let o = c.decide-verdict.result in
     let w = step-admitted R t token d id c.args.address c.args.clock c.args.working.now (judged_by c.weigh-weighed.result) o gate.log gate'.log e h
     c.weigh-weighed.ensures.value c.decide-verdict.ensures.follows in
     record {
       kept = m;
       step = w;
-      slip = c.slip.ensures ∙ ap (λ z. owed c.args.address z o) e;
+      slip = c.slip-slip.ensures ∙ ap (λ z. owed c.args.address z o) e;
       blank = c.weigh-weighed.ensures.blank;
       adds = adds image opened R gate gate' m (arriving x (Ok o)) w;
     }

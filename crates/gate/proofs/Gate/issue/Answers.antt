@@ -1,5 +1,5 @@
 use Rattle.std.proofs.Common.{◌<◌, refl, arith}
-use Rattle.wire.specs.Content.Content.{validation}
+use Rattle.wire.specs.declared.types.TokenPayload.TheVariants.{Validation}
 use Rattle.sealing.specs.Tokens.{token_for}
 use Rattle.gate.specs.Calls.{Terms, Issue, issue_of, with_nonce}
 use Rattle.gate.specs.Successions.{terms}
@@ -20,7 +20,7 @@ returns g c =
     let t : Terms = terms g.S.SealingScheme.image g.S.SealingScheme.opened c.args.self.now in
     let x : Issue = issue_of c.args.nonce c.args.ip c.args.clock c.args.out.now c.args.working.now in
     let low : x.low < 18446744073709551616 = omega arith in
-    let bytes = token_for t.image x.low x.high (validation x.ip c.in-Ok.issued) in
+    let bytes = token_for t.image x.low x.high (Validation x.ip c.in-Ok.issued) in
     let e = c.encode_token.ensures in
     let room = c.in-Ok.ensures.enough.0 in
     let enough = c.in-Ok.ensures.enough.1 in

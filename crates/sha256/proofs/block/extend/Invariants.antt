@@ -1,6 +1,6 @@
-use Rattle.std.proofs.Common.{◌≡◌}
+use Rattle.std.proofs.Common.{◌≡◌, ◌-◌}
 use Rattle.sha256.specs.Block.{extended}
 use Rattle.sha256.proofs.block.extend.Given as goal
 
-abbrev pub invariant-loop-n : goal.invariant-loop-n
-invariant-loop-n l = l.w ≡ extended l.n l.initial.w
+abbrev pub invariant-loop-t : goal.invariant-loop-t
+invariant-loop-t l = l.w ≡ extended (l.t - 16) l.initial.w

@@ -3,4 +3,4 @@ use Rattle.sha256.proofs.block.next_word.Goals as goal
 
 pub returns : goal.returns
 unfolding next_word
-returns c = simp (c.small_sigma1.ensures, c.small_sigma0.ensures)
+returns c = simp (c.small_sigma.ensures, c.small_sigma-2.ensures)

@@ -3,4 +3,4 @@ use Rattle.sha256.proofs.block.step.Goals as goal
 
 pub returns : goal.returns
 unfolding stepped
-returns c = simp (c.big_sigma1.ensures, c.choose.ensures, c.big_sigma0.ensures, c.majority.ensures)
+returns c = simp (c.big_sigma.ensures, c.choose.ensures, c.big_sigma-2.ensures, c.majority.ensures)

@@ -1,11 +1,8 @@
-use Rattle.std.proofs.Common.{refl, arith}
-use Rattle.answers.proofs.Filling.{filled_more, filled_all}
+use Rattle.std.proofs.Common.{rules}
 use Rattle.sha256.specs.Digest.{bytes_of, byte_at}
+use Rattle.answers.proofs.Calls.{made}
 use Rattle.sha256.proofs.message.to_bytes.Goals as goal
-
-pub loop-i-preserved : goal.loop-i-preserved
-loop-i-preserved c = filled_more (byte_at c.args.value) 32 c.loop-i.bytes c.loop-i.i _ (omega arith) refl c.loop-i.invariant
 
 pub returns : goal.returns
 unfolding bytes_of
-returns c = filled_all (byte_at c.args.value) 32 c.loop-i.bytes c.loop-i.i (omega arith) c.loop-i.invariant
+returns c = made _ _ (byte_at c.args.value) 32 c.from_fn.result (λ k y q l e. search rules) c.from_fn.ensures.items

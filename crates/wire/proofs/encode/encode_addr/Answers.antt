@@ -1,13 +1,7 @@
-use Rattle.std.proofs.Common.{◌++◌, sym, ap, arith, length-append}
+use Rattle.std.proofs.Common.{◌++◌, sym, ap}
 use Rattle.answers.proofs.Buffers.{then_put}
-use Rattle.wire.specs.Content.{encode_ip, encode_port, encode_addr}
+use Rattle.wire.specs.Content.{encode_ip, encode_addr}
 use Rattle.wire.proofs.encode.encode_addr.Goals as goal
-
-pub encode_ip-at-requires : goal.encode_ip-at-requires
-encode_ip-at-requires c = omega (arith, length-append (encode_ip c.args.address.ip) (encode_port c.args.address.port))
-
-pub put-requires : goal.put-requires
-put-requires c = omega (arith, length-append (encode_ip c.args.address.ip) (encode_port c.args.address.port), c.encode_ip-at.ensures.ends)
 
 pub returns : goal.returns
 returns c =

@@ -1,7 +1,7 @@
 use Rattle.std.proofs.Common.{◌∷◌, refl, arith}
 use Rattle.answers.proofs.Buffers.{then_put}
 use Rattle.wire.specs.Content.{encode_ip, encode_content}
-use Rattle.wire.specs.Content.Content.{validation}
+use Rattle.wire.specs.declared.types.TokenPayload.TheVariants.{Validation}
 use Rattle.wire.proofs.Writing.{validation_fields, validation_length}
 use Rattle.wire.proofs.encode.encode_validation.Goals as goal
 
@@ -19,4 +19,4 @@ returns c =
     let ip = c.args.ip in
     let l = validation_length ip c.args.issued in
     let one = then_put (1 ∷ encode_ip ip) refl (omega arith) c.put-fields.ensures c.encode_ip-time.ensures in
-    then_put (encode_content (validation ip c.args.issued)) (validation_fields ip c.args.issued) (omega arith) one c.encode_unix_secs.ensures
+    then_put (encode_content (Validation ip c.args.issued)) (validation_fields ip c.args.issued) (omega arith) one c.encode_unix_secs.ensures

@@ -1,16 +1,17 @@
-use Rattle.std.proofs.Common.{arith}
-use Rattle.aes.proofs.Rounds.{rounds_none, rounds_more, rounds-all}
+use Rattle.std.proofs.Common.{◌≡◌, ◌/◌, length, rules, ap, ◌∙◌, arith}
+use Rattle.std.specs.List.{fold}
+use Rattle.std.specs.Simd.{first_chunks}
+use Rattle.aes.specs.Cipher.{round}
+use Rattle.answers.proofs.Calls.{folds}
+use Rattle.aes.proofs.Rounds.{all_rounds}
 use Rattle.aes.proofs.cipher.Aes256.encrypt_block.Goals as goal
-
-pub loop-n-init : goal.loop-n-init
-loop-n-init c = rounds_none _ _
-
-pub loop-n-preserved : goal.loop-n-preserved
-loop-n-preserved c =
-    rounds_more c.args.self.now.round_keys c.round-next.result c.loop-n.state c.add_round_key-state.result c.loop-n.n
-    (omega arith) c.round-next.ensures c.loop-n.invariant
 
 pub returns : goal.returns
 returns c =
-    rounds-all c.args.self.now.round_keys c.add_round_key.result c.substituted.result c.loop-n.state c.add_round_key-state.result c.args.block c.loop-n.n
-    c.add_round_key.ensures c.substituted.ensures c.loop-n.invariant (omega arith) c.add_round_key-state.ensures
+    let w = c.args.self.now.round_keys in
+    let y = c.add_round_key.result in
+    let n : length w / 4 ≡ 15 = omega arith in
+    let m : c.fold-mixed.result ≡ fold (λ x k. round k 0 x) y c.iter.result.rest.now =
+    folds _ (λ x k. round k 0 x) _ (λ a x b f' k. search rules) c.iter.result y c.fold-mixed.result c.fold-mixed.ensures.ran in
+    all_rounds w c.args.block y c.fold-mixed.result c.substituted.result c.add_round_key-2.result c.as_chunks.result.0.now
+    (c.as_chunks.ensures.front ∙ ap (λ k. first_chunks 4 k w) n) c.add_round_key.ensures (m ∙ ap (fold (λ x k. round k 0 x) y) c.iter.ensures.rest) c.substituted.ensures c.add_round_key-2.ensures

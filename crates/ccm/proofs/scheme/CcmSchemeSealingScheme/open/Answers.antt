@@ -1,5 +1,6 @@
 use Rattle.std.proofs.Common.{◌≡◌, ℕ, ◌-◌, ◌<◌, ◌⊎◌, List, length, Some, None, Ok, sym, ap, ◌∙◌, subst, inl, inr, arith}
 use Rattle.std.proofs.lemmas.Bool.Decides.{not_from_Decides}
+use borrow.Rule.Slice.PartMut.{put_mid}
 use Rattle.answers.specs.Buffers.{fronted}
 use Rattle.sealing.specs.Sealing.{Opens}
 use Rattle.sealing.specs.Tokens.{wiped}
@@ -8,7 +9,7 @@ use Rattle.ccm.specs.Mode.{Cipher, sealed, unmasked}
 use Rattle.ccm.specs.Scheme.{cipher_for, ccm_opened, keyless}
 use Rattle.ccm.specs.Openings.{length-unmasked}
 use Rattle.ccm.specs.Undoing.{opens_fitting, none_of_length, none_fitting}
-use Rattle.ccm.proofs.Leaving.{fronted_same, wiped-fronted, unopened_wiped, opened_left, left-some, left-wiped, left_same}
+use Rattle.ccm.proofs.Leaving.{key_filled, all_filled, fronted_same, wiped-fronted, unopened_wiped, opened_left, left-some, left-wiped, left_same}
 use Rattle.ccm.proofs.scheme.CcmSchemeSealingScheme.open.Goals as goal
 use Rattle.ccm.proofs.scheme.CcmSchemeSealingScheme.open.Goals.{then-sealed-lt-TAG-via-then-sealed-lt-TAG, then-sealed-lt-TAG-via-else-sealed-lt-TAG+then-sealed}
 
@@ -41,7 +42,8 @@ returns-then-not-open_with c =
     let l : length m ≡ length b - 16 = length-unmasked E b (omega arith) in
     let after : c.open_with.new.working ≡ fronted m is =
     c.open_with.ensures.after ∙ ap (λ (C : Cipher). fronted (unmasked C b) is) c.derive-aes.ensures.cipher in
-    let left : c.wipe.new.working ≡ wiped was = c.wipe.ensures ∙ ap wiped after ∙ wiped-fronted m was is (omega arith) c.derive-aes.ensures.past in
+    let left : put_mid 0 96 c.open_with.new.working c.fill.new.self ≡ wiped was =
+    all_filled c.open_with.new.working c.fill.new.self (omega arith) (c.fill.ensures.after (λ y e. e)) ∙ ap wiped after ∙ wiped-fronted m was is (omega arith) c.derive-aes.ensures.past in
     record {
       opens = subst (λ (w : List ℕ). Opens opened b was w (Ok None)) (sym left) (unopened_wiped was (omega arith) opened b none);
       left = left ∙ left-wiped b was (opened b) (omega arith) (omega arith) none;
@@ -61,8 +63,8 @@ returns c =
     let fits : Cipher → Type 0 = λ E. sealed E (unmasked E b) ≡ b in
     let same : sealed E m ≡ b = subst fits c.derive-aes.ensures.cipher (c.open_with.ensures.fits.0 c.if-not-open_with.false) in
     let some : opened b ≡ Some m = opens_fitting secret n b (omega arith) (omega arith) same in
-    let left : c.wipe_key.new.working ≡ keyless (fronted m was) =
-    c.wipe_key.ensures ∙ ap keyless (c.open_with.ensures.after ∙ ap (λ (C : Cipher). fronted (unmasked C b) is) c.derive-aes.ensures.cipher)
+    let left : put_mid 64 32 c.open_with.new.working c.fill-2.new.self ≡ keyless (fronted m was) =
+    key_filled c.open_with.new.working c.fill-2.new.self (omega arith) (c.fill-2.ensures.after (λ y e. e)) ∙ ap keyless (c.open_with.ensures.after ∙ ap (λ (C : Cipher). fronted (unmasked C b) is) c.derive-aes.ensures.cipher)
     ∙ fronted_same m was is (omega arith) c.derive-aes.ensures.front c.derive-aes.ensures.past in
     record {
       opens = subst (λ (w : List ℕ). Opens opened b was w (Ok (Some (length b - 16)))) (sym left) (opened_left was (omega arith) opened b m (length b - 16) l (omega arith) some);

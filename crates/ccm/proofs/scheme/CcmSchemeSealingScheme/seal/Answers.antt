@@ -1,9 +1,10 @@
 use Rattle.std.proofs.Common.{◌≡◌, ℕ, ◌+◌, ◌-◌, List, take, drop, Ok, sym, ap, ◌∙◌, subst, arith}
+use borrow.Rule.Slice.PartMut.{put_mid}
 use Rattle.answers.specs.Buffers.{fronted}
 use Rattle.sealing.specs.Sealing.{Seals}
 use Rattle.ccm.specs.Mode.{Cipher, sealed}
 use Rattle.ccm.specs.Scheme.{ccm_image, keyless}
-use Rattle.ccm.proofs.Leaving.{content_stays, keyless_same, sealed-left}
+use Rattle.ccm.proofs.Leaving.{key_filled, content_stays, keyless_same, sealed-left}
 use Rattle.ccm.proofs.scheme.CcmSchemeSealingScheme.seal.Goals as goal
 
 pub returns : goal.returns
@@ -15,7 +16,7 @@ returns c =
     let out = c.args.out.now in
     let front = c.derive-aes.ensures.front in
     let past = c.derive-aes.ensures.past in
-    let left : c.wipe_key.new.working ≡ keyless was = c.wipe_key.ensures ∙ keyless_same was is (omega arith) front past in
+    let left : put_mid 64 32 is c.fill.new.self ≡ keyless was = key_filled is c.fill.new.self (omega arith) (c.fill.ensures.after (λ y e. e)) ∙ keyless_same was is (omega arith) front past in
     let after : c.seal_with.new.out ≡ fronted (image (take (len - 0) (drop 0 is))) out =
     c.seal_with.ensures ∙ ap (λ (E : Cipher). fronted (sealed E (take (len - 0) (drop 0 is))) out) c.derive-aes.ensures.cipher in
     record {

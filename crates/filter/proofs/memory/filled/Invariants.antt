@@ -1,5 +1,0 @@
-use Rattle.std.proofs.Common.{◌≡◌, ◌≤◌, replicate, vec_items, vec_len, vec_capacity}
-use Rattle.filter.proofs.memory.filled.Given as goal
-
-abbrev pub invariant-loop : goal.invariant-loop
-invariant-loop g l = (vec_items l.memory ≡ replicate l.counter l.value) × (vec_len l.memory ≡ l.counter) × (l.count ≤ vec_capacity l.memory)

@@ -32,7 +32,7 @@ fn substituted(state: [u8; 16]) -> [u8; 16]
     array::from_fn(|i| substitute(state[5 * i % 16]))
 }
 
-// SubBytes, ShiftRows, then MixColumns.
+// SubBytes, ShiftRows, then MixColumns. The four columns are written out, as the standard draws the rows.
 fn mix(state: [u8; 16]) -> [u8; 16]
     ensures { result ≡ mix_columns (shift_rows (sub_bytes state)) }
 {

@@ -35,6 +35,7 @@ pub fn expand(key: &[u8; 32]) -> [u32; WORDS]
     ensures { result ≡ key_expansion key.now }
 {
     let mut words = [0; WORDS];
+    // By index in `words`, which is longer; what is written through `iter_mut` no proof knows.
     for (i, bytes) in key.as_chunks::<4>().0.iter().enumerate() {
         words[i] = u32::from_be_bytes(*bytes);
     }

@@ -4,25 +4,25 @@ ghost use Rattle.std.specs.Prelude.{◌≡◌};
 ghost use Rattle.answers.specs.Numbers.{refusal_number, cause_number, NumbersTell};
 ghost use Rattle.answers.specs.declared.Cause.TheVariants.{Undecodable as is_undecodable};
 
-// Why a call was refused. A refused call writes nothing and alters nothing.
+// Why a call was refused, by the number it is known by. A refused call writes nothing and alters nothing.
 #[derive(Clone, Copy, PartialEq, Eq, Debug)]
 pub enum Refusal {
     // a buffer is too small, or a content is longer than a scheme takes
-    SmallBuffer,
+    SmallBuffer = 1,
     // a connection id of more than 20 bytes
-    LongConnectionId,
+    LongConnectionId = 2,
     // a clock reading past the last second that a token can carry
-    LateClock,
+    LateClock = 3,
     // a lifetime past the longest allowed
-    LongLifetime,
+    LongLifetime = 4,
     // a number of hash positions outside 1 to 64
-    HashCount,
+    HashCount = 5,
     // a name or a token longer than a store takes
-    LongEntry,
+    LongEntry = 6,
     // more asked for than is allowed, or less memory given than that needs
-    Capacity,
+    Capacity = 7,
     // a retry for an arrival that a retry token has validated
-    AlreadyRetried,
+    AlreadyRetried = 8,
 }
 
 // Why a token was not honoured.
@@ -85,26 +85,17 @@ impl From<Fault> for Cause {
 }
 
 impl Refusal {
-    // The number by which a refusal is known, 1 to 8. A method and no `From`, which would not say what the number is.
+    // The number by which a refusal is known, 1 to 8.
     pub fn number(self) -> u8
         ensures { result ≡ refusal_number self }
     {
-        match self {
-            Refusal::SmallBuffer => 1,
-            Refusal::LongConnectionId => 2,
-            Refusal::LateClock => 3,
-            Refusal::LongLifetime => 4,
-            Refusal::HashCount => 5,
-            Refusal::LongEntry => 6,
-            Refusal::Capacity => 7,
-            Refusal::AlreadyRetried => 8,
-        }
+        self as u8
     }
 }
 
 impl Cause {
     // The number by which a cause is known: 11 to 14 from the log, 20 to 24 where an arrival goes on
-    // unvalidated, 31 and 32 where it is rejected.
+    // unvalidated, 31 and 32 where it is rejected. Written out: a cause that has a fault cannot be cast.
     pub fn number(self) -> u8
         ensures { result ≡ cause_number self }
     {

@@ -81,7 +81,8 @@ fn set_bit(words: &mut [u64], at: u64)
     words[word] |= 1 << (at % WORD);
 }
 
-// Whether the bits at all these positions are set.
+// Whether the bits at all these positions are set. A loop, as a closure for `all` could not show that a position is below
+// the number of bits.
 pub fn all_set(words: &[u64], positions: Positions) -> bool
     requires { positions.bits ≤ 64 * length words.now }
     ensures { result ≡ list_all (bit words.now) (ahead positions.bits positions.step positions.at positions.left) }

@@ -68,7 +68,7 @@ fn key_stream(aes: &Aes256, blocks: usize) -> [u8; 64]
     ensures { (i : ℕ) → i < 16 * blocks → slice_index result i ≡ stream_at (cipher aes.now.round_keys) i }
 {
     let mut stream = [0; 64];
-    // Counted, since the number itself is enciphered.
+    // Counted, since the number itself is enciphered; what is written through `as_chunks_mut` no proof knows.
     for n in 0..blocks {
         let block = aes.encrypt_block(headed(COUNTER_FLAGS, n + 1));
         stream[BLOCK * n..BLOCK * n + BLOCK].copy_from_slice(&block);
@@ -83,6 +83,7 @@ pub(crate) fn mask(aes: &Aes256, bytes: &[u8], out: &mut [u8])
     ensures { out.new ≡ fronted (masked (cipher aes.now.round_keys) bytes.now) out.old }
 {
     let stream = key_stream(aes, (bytes.len() + BLOCK - 1) / BLOCK);
+    // By index in `out`, which is longer; what is written through `iter_mut` no proof knows.
     for (i, byte) in bytes.iter().enumerate() {
         out[i] = *byte ^ stream[i];
     }

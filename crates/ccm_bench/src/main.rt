@@ -3,7 +3,7 @@
 ghost use Rattle.std.specs.Prelude.{◌≤◌};
 
 use aes::Aes256;
-use anyhow::anyhow;
+use anyhow::Context;
 use ccm::CcmScheme;
 use sealing::{SealingScheme, WORKING};
 use sha256::HmacKey;
@@ -18,13 +18,17 @@ const CALLS: u32 = 20_000;
 const BLOCKS: usize = 16_384;
 
 // The least time of some rounds, in hundredths of a nanosecond for each of so many calls.
-fn least_of<F: FnMut()>(rt: &HostRuntime, calls: u32, mut round: F) -> anyhow::Result<u128>
+fn least_of<F: FnMut() -> anyhow::Result<()>>(
+    rt: &HostRuntime,
+    calls: u32,
+    mut round: F,
+) -> anyhow::Result<u128>
     requires { F.IsAlwaysCallable round }
 {
     let mut least = u128::MAX;
     for _ in 0..ROUNDS {
         let start = Instant::now(rt)?;
-        round();
+        round()?;
         least = least.min(start.elapsed(rt)?.as_nanos());
     }
     Ok(least.saturating_mul(100) / calls.max(1) as u128)
@@ -46,40 +50,52 @@ fn derive(secret: &HmacKey, start: [u8; 16]) -> [u8; 16] {
 }
 
 // Seals the working bytes' front; the front of what is sealed is the next nonce. Refused only for lengths.
-fn seal(scheme: &CcmScheme, len: usize, working: &mut [u8], out: &mut [u8]) -> bool {
+fn seal(scheme: &CcmScheme, len: usize, working: &mut [u8], out: &mut [u8]) -> anyhow::Result<()> {
     let mut nonce = [7; 16];
     for _ in 0..CALLS {
-        if scheme.seal(&nonce, len, working, out).is_err() {
-            return false;
-        }
+        scheme
+            .seal(&nonce, len, working, out)
+            .ok()
+            .context("a content was not sealed")?;
         nonce = front(out);
     }
-    true
+    Ok(())
 }
 
 // Opens the same bytes again and again.
-fn open(scheme: &CcmScheme, sealed: &[u8], working: &mut [u8]) -> bool {
+fn open(scheme: &CcmScheme, sealed: &[u8], working: &mut [u8]) -> anyhow::Result<()> {
     for _ in 0..CALLS {
-        if !matches!(scheme.open(&[7; 16], sealed, working), Ok(Some(_))) {
-            return false;
-        }
+        scheme
+            .open(&[7; 16], sealed, working)
+            .ok()
+            .flatten()
+            .context("a content was not opened")?;
     }
-    true
+    Ok(())
 }
 
 // The least time of each part, and what the chains came to.
 fn measure_parts(rt: &HostRuntime) -> anyhow::Result<()> {
     let aes = Aes256::new(&[1; 32]);
     let mut block = [0; 16];
-    let time = least_of(rt, CALLS, || block = cipher(&aes, [4; 16]))?;
+    let time = least_of(rt, CALLS, || {
+        block = cipher(&aes, [4; 16]);
+        Ok(())
+    })?;
     println!(rt; "block {time} to {}", block[0])?;
     let message = vec![in rt.alloc(); 3u8; 64 * BLOCKS]?;
     let mut digest = [0; 32];
-    let time = least_of(rt, BLOCKS as u32, || digest = sha256::digest(&message))?;
+    let time = least_of(rt, BLOCKS as u32, || {
+        digest = sha256::digest(&message);
+        Ok(())
+    })?;
     println!(rt; "compression {time} to {}", digest[0])?;
     let secret = HmacKey::new(&[2; 32]);
     let mut nonce = [0; 16];
-    let time = least_of(rt, CALLS, || nonce = derive(&secret, [5; 16]))?;
+    let time = least_of(rt, CALLS, || {
+        nonce = derive(&secret, [5; 16]);
+        Ok(())
+    })?;
     println!(rt; "derivation {time} to {}", nonce[0])?;
     Ok(())
 }
@@ -91,16 +107,14 @@ fn measure_scheme(rt: &HostRuntime, len: usize) -> anyhow::Result<()>
     let mut working = [8; WORKING];
     let mut out = [0; 80];
     let mut first = [0; 80];
-    let mut good = scheme.seal(&[7; 16], len, &mut working, &mut first).is_ok();
-    let sealing = least_of(rt, CALLS, || {
-        good = good && seal(&scheme, len, &mut working, &mut out)
-    })?;
+    scheme
+        .seal(&[7; 16], len, &mut working, &mut first)
+        .ok()
+        .context("a content was not sealed")?;
+    let sealing = least_of(rt, CALLS, || seal(&scheme, len, &mut working, &mut out))?;
     let opening = least_of(rt, CALLS, || {
-        good = good && open(&scheme, &first[..len + 16], &mut working)
+        open(&scheme, &first[..len + 16], &mut working)
     })?;
-    if !good {
-        return Err(anyhow!("a content was not sealed, or not opened"));
-    }
     println!(rt; "seal {len} {sealing} to {}", out[0])?;
     println!(rt; "open {len} {opening}")?;
     Ok(())

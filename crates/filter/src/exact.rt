@@ -20,6 +20,8 @@ pub struct Places {
 
 // A set of at most `capacity` fingerprints, in the order of recording. An index leads to them: the head of a bucket is
 // its last place, and each place links to the one before it in its bucket; places count from 1, and 0 ends a chain.
+// Memory is fixed: fingerprint and link in one struct would take 16 bytes a place, not 12, and an `Option` in place of
+// the 0 twice its 4.
 #[derive(Drop)]
 pub struct ExactSet {
     held: Vec<u64>,
@@ -99,6 +101,7 @@ impl ExactSet {
     fn find(&self, f: u64) -> bool
         ensures { result ≡ member f self.now.held.items }
     {
+        // A walk by links ends as they lead to earlier places only; a chain of `successors` has no measure to say so.
         let mut at = self.heads[self.bucket(f)] as usize;
         while at != 0 {
             if self.held[at - 1] == f {

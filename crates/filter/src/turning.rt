@@ -13,7 +13,8 @@ pub enum Form {
     Over,
 }
 
-// Begins as a set that lists, and goes over to another filter once the set has but one sure place left.
+// Begins as a set that lists, and goes over to another filter once the set has but one sure place left. The form stands
+// beside both, as neither gives its memory up: emptied, the filter lists again.
 #[derive(Drop)]
 pub struct TurningFilter<S, B> {
     set: S,

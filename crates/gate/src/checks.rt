@@ -44,5 +44,5 @@ pub(crate) fn admit(working: usize, destination: &[u8], clock: u64) -> Result<Co
 pub(crate) fn in_date(issued: u32, lifetime: Lifetime, clock: u64) -> bool
     ensures { result ≡ in_date lifetime issued clock }
 {
-    clock <= issued as u64 * SECOND + lifetime.nanos()
+    clock <= lifetime.expiry(issued)
 }

@@ -62,6 +62,7 @@ impl<S: SealingScheme, L: TokenLog> Gate<S, L> {
         ensures adds { Adds S.SealingScheme.image S.SealingScheme.opened L.TokenLog.logs (issuing (issue_of nonce ip clock out.old working.old) (wrote out.new result)) self.old self.new }
     {
         wire::ips_are_sound(ip);
+        // No `map_err`, whose closure would take the nonce, dated or not.
         let issued = match date(out.len(), working.len(), clock) {
             Ok(issued) => issued,
             Err(refusal) => return Err(Refused {
@@ -114,31 +115,22 @@ impl<S: SealingScheme, L: TokenLog> Gate<S, L> {
             Err(cause) => return Weighed::unvalidated(cause, here),
         };
         match &token.payload {
-            TokenPayload::Retry {
-                address: asked,
-                orig_dst_cid,
-                issued,
-            } => {
-                if *asked != address {
-                    return Weighed::rejected(Cause::OtherAddress);
-                }
-                if !in_date(*issued, self.retry, clock) {
-                    return Weighed::rejected(Cause::RetryExpired);
-                }
-                Weighed::retried(here, *orig_dst_cid)
+            TokenPayload::Retry { address: asked, .. } if *asked != address => {
+                Weighed::rejected(Cause::OtherAddress)
             }
-            TokenPayload::Validation { ip, issued } => {
-                if *ip != address.ip {
-                    return Weighed::unvalidated(Cause::OtherIp, here);
-                }
-                if !in_date(*issued, self.validation, clock) {
-                    return Weighed::unvalidated(Cause::Expired, here);
-                }
-                Weighed::Asks {
-                    low: token.low,
-                    issued: *issued,
-                }
+            TokenPayload::Retry { issued, .. } if !in_date(*issued, self.retry, clock) => {
+                Weighed::rejected(Cause::RetryExpired)
             }
+            TokenPayload::Retry { orig_dst_cid, .. } => Weighed::retried(here, *orig_dst_cid),
+            TokenPayload::Validation { ip, .. } if *ip != address.ip => {
+                Weighed::unvalidated(Cause::OtherIp, here)
+            }
+            TokenPayload::Validation { issued, .. } if !in_date(*issued, self.validation, clock) =>
+                { Weighed::unvalidated(Cause::Expired, here) }
+            TokenPayload::Validation { issued, .. } => Weighed::Asks {
+                low: token.low,
+                issued: *issued,
+            },
         }
     }
 

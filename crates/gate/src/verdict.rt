@@ -31,8 +31,8 @@ pub struct Arrived {
     pub slip: Option<Slip>,
 }
 
-// What an arrival alone decides: its verdict, or to ask the log about a low half and an issue time. No `Result`, as
-// neither is a fault.
+// What an arrival alone decides: its verdict, or to ask the log about a low half and an issue time. In a `Result` a
+// validated arrival would be an `Err`.
 #[derive(Clone, Copy)]
 pub(crate) enum Weighed {
     Settled(Verdict),
@@ -68,7 +68,7 @@ impl Weighed {
 }
 
 impl Verdict {
-    // The number of its cause; 0 if validated. A method and no `From`, as for a cause.
+    // The number of its cause; 0 if validated.
     pub fn number(self) -> u8
         ensures { result ≡ verdict_number self }
     {

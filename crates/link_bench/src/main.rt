@@ -4,33 +4,29 @@ mod periods;
 mod show;
 
 use answers::Refusal;
-use anyhow::Context;
+use anyhow::anyhow;
 use hex_text::Hex;
 use periods::run_log;
 use sealing::{BenchScheme, MAX_TOKEN, Nonce, SealingScheme, WORKING, decode_token, encode_token};
 use show::Said;
 use std::alloc::Global;
-use std::io;
 use wire::{ConnectionId, IpAddr, SocketAddr, TokenPayload};
 
 // The damaged byte of each token.
 const DAMAGED: usize = 3;
 
 // Opens and decodes a token, and prints what it says, or the cause why it says nothing.
-fn read<S: SealingScheme>(rt: &impl Print, scheme: &S, token: &[u8]) -> io::Result<()> {
+fn read<S: SealingScheme>(rt: &impl Print, scheme: &S, token: &[u8]) -> anyhow::Result<()> {
     let mut working = [0; WORKING];
-    let said = match decode_token(scheme, token, &mut working) {
-        Ok(said) => said,
-        Err(refusal) => return refused(rt, refusal),
-    };
-    match said {
-        Ok(token) => println!(rt; "says {} under low half {}", Said(token.payload), token.low),
-        Err(cause) => println!(rt; "unvalidated {}", cause.number()),
+    match decode_token(scheme, token, &mut working).map_err(refused)? {
+        Ok(token) => println!(rt; "says {} under low half {}", Said(token.payload), token.low)?,
+        Err(cause) => println!(rt; "unvalidated {}", cause.number())?,
     }
+    Ok(())
 }
 
-fn refused(rt: &impl Print, refusal: Refusal) -> io::Result<()> {
-    println!(rt; "refused {}", refusal.number())
+fn refused(refusal: Refusal) -> anyhow::Error {
+    anyhow!("refused {}", refusal.number())
 }
 
 // Writes a token and reads it back, first as it is and then with one byte damaged.
@@ -39,17 +35,14 @@ fn there_and_back<S: SealingScheme>(
     scheme: &S,
     payload: &TokenPayload,
     nonce: Nonce,
-) -> io::Result<()> {
+) -> anyhow::Result<()> {
     let mut working = [0; WORKING];
     let mut token = [0; MAX_TOKEN];
-    match payload.encode(&mut working) {
-        Ok(len) => println!(rt; "content {}", Hex(&working[0..len]))?,
-        Err(refusal) => return refused(rt, refusal),
-    }
-    let len = match encode_token(scheme, payload, nonce, &mut working, &mut token) {
-        Ok(len) => len,
-        Err(unsealed) => return refused(rt, unsealed.refusal),
-    };
+    let len = payload.encode(&mut working).map_err(refused)?;
+    println!(rt; "content {}", Hex(&working[0..len]))?;
+    let len = encode_token(scheme, payload, nonce, &mut working, &mut token).map_err(|back| refused(
+        back.refusal,
+    ))?;
     println!(rt; "token {} of {len} bytes", Hex(&token[0..len]))?;
     read(rt, scheme, &token[0..len])?;
     token[DAMAGED] ^= 1;
@@ -65,9 +58,7 @@ fn run_tokens(rt: &impl Print) -> anyhow::Result<()> {
         issued: 1000,
     };
     there_and_back(rt, &scheme, &validation, Nonce::new(7, 9))?;
-    let id = ConnectionId::new(&[0xaa, 0xbb])
-        .ok()
-        .context("a connection id of two bytes was refused")?;
+    let id = ConnectionId::new(&[0xaa, 0xbb]).map_err(refused)?;
     let retry = TokenPayload::Retry {
         address: SocketAddr {
             ip: cab,
@@ -77,9 +68,7 @@ fn run_tokens(rt: &impl Print) -> anyhow::Result<()> {
         issued: 1,
     };
     there_and_back(rt, &scheme, &retry, Nonce::new(8, 9))?;
-    let id = ConnectionId::new(b"twenty bytes of name")
-        .ok()
-        .context("a connection id of twenty bytes was refused")?;
+    let id = ConnectionId::new(b"twenty bytes of name").map_err(refused)?;
     let address = SocketAddr {
         ip: IpAddr::V6(*b"\x20\x01\x0d\xb8\0\0\0\0\0\0\0\0\0\0\0\x07"),
         port: 4433,

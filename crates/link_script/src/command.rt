@@ -65,22 +65,22 @@ pub(crate) enum Command<'a> {
 }
 
 // The fields of a struct are read in the order in which it has them, which is that of the words.
-fn read_issue(heap: Global, words: &mut Words<'_, '_>) -> Result<Issue, Bad> {
+fn read_issue(words: &mut Words<'_, '_>) -> Result<Issue, Bad> {
     Ok(Issue {
         low: words.number()?,
         high: words.number()?,
-        ip: words.ip(heap)?,
+        ip: words.ip()?,
         clock: words.number()?,
         room: words.length("room", MAX_TOKEN)?,
         working: words.length("working", WORKING)?,
     })
 }
 
-fn read_arrive(heap: Global, words: &mut Words<'_, '_>) -> Result<Arrive, Bad> {
-    let token = words.bytes(heap)?;
-    let destination = words.bytes(heap)?;
+fn read_arrive(words: &mut Words<'_, '_>) -> Result<Arrive, Bad> {
+    let token = words.bytes()?;
+    let destination = words.bytes()?;
     let address = SocketAddr {
-        ip: words.ip(heap)?,
+        ip: words.ip()?,
         port: words.port()?,
     };
     let clock = words.number()?;
@@ -104,9 +104,9 @@ fn read_retry(words: &mut Words<'_, '_>) -> Result<Retry, Bad> {
     })
 }
 
-fn read_insert<'a>(heap: Global, words: &mut Words<'_, 'a>) -> Result<Insert<'a>, Bad> {
+fn read_insert<'a>(words: &mut Words<'_, 'a>) -> Result<Insert<'a>, Bad> {
     let name = words.name()?;
-    let token = words.bytes(heap)?;
+    let token = words.bytes()?;
     Ok(Insert { name, token })
 }
 
@@ -122,15 +122,15 @@ fn read_hash_count<'a>(words: &mut Words<'_, 'a>) -> Result<Command<'a>, Bad> {
     Ok(Command::HashCount { budget, hits })
 }
 
-fn read_command<'a>(heap: Global, words: &mut Words<'_, 'a>) -> Result<Command<'a>, Bad> {
+fn read_command<'a>(words: &mut Words<'_, 'a>) -> Result<Command<'a>, Bad> {
     let command = match words.next()? {
-        "issue" => Command::Issue(read_issue(heap, words)?),
-        "arrive" => Command::Arrive(read_arrive(heap, words)?),
+        "issue" => Command::Issue(read_issue(words)?),
+        "arrive" => Command::Arrive(read_arrive(words)?),
         "retry" => Command::Retry(read_retry(words)?),
         "accept" => Command::Spend(End::Accept),
         "refuse" => Command::Spend(End::Refuse),
         "ignore" => Command::Spend(End::Ignore),
-        "insert" => Command::Insert(read_insert(heap, words)?),
+        "insert" => Command::Insert(read_insert(words)?),
         "take" => Command::Take(read_take(words)?),
         "k" => read_hash_count(words)?,
         _ => return Err(Bad::Line("no such command")),
@@ -142,5 +142,5 @@ fn read_command<'a>(heap: Global, words: &mut Words<'_, 'a>) -> Result<Command<'
 // The call that a line makes.
 pub(crate) fn read_line<'a>(heap: Global, line: &'a str) -> Result<Command<'a>, Bad> {
     let words: Vec<&'a str> = line.split(' ').collect(heap)?;
-    read_command(heap, &mut Words::new(&words))
+    read_command(&mut Words::new(heap, &words))
 }

@@ -1,12 +1,25 @@
 // The head of a script: the scheme, the log, the gate and the store, in this order.
 use crate::words::{Bad, Words};
-use std::alloc::Global;
 
-// A line of the head.
+// A line of the head: its first word, what is said where another stands, and what follows it.
 pub(crate) trait Head {
-    fn read(heap: Global, words: &mut Words<'_, '_>) -> Result<Self, Bad>
+    const WORD: &'static str;
+
+    const OTHERWISE: &'static str;
+
+    fn read(words: &mut Words<'_, '_>) -> Result<Self, Bad>
     where
         Self: Sized;
+}
+
+// Reads a line as this line of the head, and no more.
+pub(crate) fn read_head<H: Head + Drop>(mut words: Words<'_, '_>) -> Result<H, Bad> {
+    if words.next()? != H::WORD {
+        return Err(Bad::Line(H::OTHERWISE));
+    }
+    let head = H::read(&mut words)?;
+    words.end()?;
+    Ok(head)
 }
 
 #[derive(Clone, Copy)]
@@ -16,17 +29,16 @@ pub(crate) enum SchemeHead {
 }
 
 impl Head for SchemeHead {
-    fn read(heap: Global, words: &mut Words<'_, '_>) -> Result<SchemeHead, Bad> {
-        if words.next()? != "scheme" {
-            return Err(Bad::Line("the scheme comes first"));
+    const WORD: &'static str = "scheme";
+
+    const OTHERWISE: &'static str = "the scheme comes first";
+
+    fn read(words: &mut Words<'_, '_>) -> Result<SchemeHead, Bad> {
+        match words.next()? {
+            "bench" => Ok(SchemeHead::Bench(words.array()?)),
+            "ccm" => Ok(SchemeHead::Ccm(words.array()?)),
+            _ => Err(Bad::Line("no such scheme")),
         }
-        let head = match words.next()? {
-            "bench" => SchemeHead::Bench(words.array(heap)?),
-            "ccm" => SchemeHead::Ccm(words.array(heap)?),
-            _ => return Err(Bad::Line("no such scheme")),
-        };
-        words.end()?;
-        Ok(head)
     }
 }
 
@@ -40,10 +52,11 @@ pub(crate) enum LogHead {
 }
 
 impl Head for LogHead {
-    fn read(_heap: Global, words: &mut Words<'_, '_>) -> Result<LogHead, Bad> {
-        if words.next()? != "log" {
-            return Err(Bad::Line("the log comes next"));
-        }
+    const WORD: &'static str = "log";
+
+    const OTHERWISE: &'static str = "the log comes next";
+
+    fn read(words: &mut Words<'_, '_>) -> Result<LogHead, Bad> {
         let head = match words.next()? {
             "none" => LogHead::None,
             "set" => LogHead::Set {
@@ -63,7 +76,6 @@ impl Head for LogHead {
             },
             _ => return Err(Bad::Line("no such log")),
         };
-        words.end()?;
         Ok(head)
     }
 }
@@ -75,14 +87,15 @@ pub(crate) struct GateHead {
 }
 
 impl Head for GateHead {
-    fn read(_heap: Global, words: &mut Words<'_, '_>) -> Result<GateHead, Bad> {
-        if words.next()? != "gate" {
-            return Err(Bad::Line("the gate comes next"));
-        }
-        let retry = words.number()?;
-        let validation = words.number()?;
-        words.end()?;
-        Ok(GateHead { retry, validation })
+    const WORD: &'static str = "gate";
+
+    const OTHERWISE: &'static str = "the gate comes next";
+
+    fn read(words: &mut Words<'_, '_>) -> Result<GateHead, Bad> {
+        Ok(GateHead {
+            retry: words.number()?,
+            validation: words.number()?,
+        })
     }
 }
 
@@ -93,15 +106,14 @@ pub(crate) enum StoreHead {
 }
 
 impl Head for StoreHead {
-    fn read(_heap: Global, words: &mut Words<'_, '_>) -> Result<StoreHead, Bad> {
-        if words.next()? != "store" {
-            return Err(Bad::Line("the store comes next"));
+    const WORD: &'static str = "store";
+
+    const OTHERWISE: &'static str = "the store comes next";
+
+    fn read(words: &mut Words<'_, '_>) -> Result<StoreHead, Bad> {
+        match words.next()? {
+            "none" => Ok(StoreHead::None),
+            _ => Err(Bad::Line("no such store")),
         }
-        let head = match words.next()? {
-            "none" => StoreHead::None,
-            _ => return Err(Bad::Line("no such store")),
-        };
-        words.end()?;
-        Ok(head)
     }
 }

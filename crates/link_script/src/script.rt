@@ -1,6 +1,6 @@
 // Goes through the lines of a script.
 use crate::command::read_line;
-use crate::head::Head;
+use crate::head::{Head, read_head};
 use crate::session::Session;
 use crate::words::{Bad, Words};
 use sealing::SealingScheme;
@@ -35,10 +35,13 @@ impl<'a> Script<'a> {
     }
 
     // The next line of the head; lines that are no such line are passed over.
-    pub(crate) fn next_head<H: Head>(&mut self, rt: &impl Print) -> anyhow::Result<Option<H>> {
+    pub(crate) fn next_head<H: Head + Drop>(
+        &mut self,
+        rt: &impl Print,
+    ) -> anyhow::Result<Option<H>> {
         for (at, line) in self.lines.by_ref() {
             let words: Vec<&str> = line.split(' ').collect(self.heap)?;
-            match H::read(self.heap, &mut Words::new(&words)) {
+            match read_head::<H>(Words::new(self.heap, &words)) {
                 Ok(head) => return Ok(Some(head)),
                 Err(bad) => complain(rt, *at, bad)?,
             }

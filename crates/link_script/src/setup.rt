@@ -18,6 +18,7 @@ use token_store::NoneTokenStore;
 const MOST_PLACES: u32 = 1_048_576;
 
 // Why a run ends before its script does: what the head asks for is refused, or the program fails.
+// Its conversions are written out: those from two errors go on into a third, which no derive does.
 #[derive(Drop)]
 enum Stop {
     Refused(Refusal),

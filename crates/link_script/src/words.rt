@@ -1,45 +1,34 @@
 // The words of a line, one after the other.
 use hex_text::read_hex;
 use std::alloc::{AllocError, Global};
-use std::fmt;
 use std::str::FromStr;
+use thiserror::Error;
 use wire::IpAddr;
 
 // The longest buffer that a line can ask for.
 pub(crate) const MOST: usize = 4096;
 
 // Why a line is not run.
-#[derive(Clone, Copy, PartialEq, Eq, Debug)]
+#[derive(Clone, Copy, PartialEq, Eq, Debug, Error)]
 pub(crate) enum Bad {
     // what is wrong with it
+    #[error("{0}")]
     Line(&'static str),
-    Memory,
+    #[error("no memory")]
+    Memory(#[from] AllocError),
 }
 
-impl From<AllocError> for Bad {
-    fn from(_error: AllocError) -> Bad {
-        Bad::Memory
-    }
-}
-
-impl fmt::Display for Bad {
-    fn fmt<W: fmt::Write>(&self, f: &mut fmt::Formatter<W>) -> fmt::Result {
-        f.write_str(match self {
-            Bad::Line(what) => what,
-            Bad::Memory => "no memory",
-        })
-    }
-}
-
-// The words that are left of a line.
+// The words that are left of a line, and the heap for what they say. (A field cannot be given what `split_first` cuts, so the
+// front is cut by a range.)
 #[derive(Drop)]
 pub(crate) struct Words<'w, 'a> {
+    heap: Global,
     left: &'w [&'a str],
 }
 
 impl<'w, 'a> Words<'w, 'a> {
-    pub(crate) fn new(words: &'w [&'a str]) -> Words<'w, 'a> {
-        Words { left: words }
+    pub(crate) fn new(heap: Global, words: &'w [&'a str]) -> Words<'w, 'a> {
+        Words { heap, left: words }
     }
 
     pub(crate) fn next(&mut self) -> Result<&'a str, Bad> {
@@ -57,34 +46,37 @@ impl<'w, 'a> Words<'w, 'a> {
         Ok(())
     }
 
-    // A number that fits its type.
+    // A word that is a value of this type.
+    fn parsed<T: FromStr + Drop>(&mut self, otherwise: &'static str) -> Result<T, Bad>
+    where
+        T::Err: Drop,
+    {
+        self.next()?.parse::<T>().map_err(|_| Bad::Line(otherwise))
+    }
+
     pub(crate) fn number<T: FromStr + Drop>(&mut self) -> Result<T, Bad>
     where
         T::Err: Drop,
     {
-        self.next()?
-            .parse::<T>()
-            .map_err(|_| Bad::Line("not a number"))
+        self.parsed("not a number")
     }
 
     pub(crate) fn port(&mut self) -> Result<u16, Bad> {
-        self.next()?
-            .parse::<u16>()
-            .map_err(|_| Bad::Line("not a port"))
+        self.parsed("not a port")
     }
 
     // Bytes in hex, `-` for none.
-    pub(crate) fn bytes(&mut self, heap: Global) -> Result<Vec<u8>, Bad> {
+    pub(crate) fn bytes(&mut self) -> Result<Vec<u8>, Bad> {
         let word = self.next()?;
         if word == "-" {
-            return Ok(Vec::new(heap));
+            return Ok(Vec::new(self.heap));
         }
-        read_hex(heap, word.as_bytes())?.ok_or(Bad::Line("not in hex"))
+        read_hex(self.heap, word.as_bytes())?.ok_or(Bad::Line("not in hex"))
     }
 
     // Just so many bytes.
-    pub(crate) fn array<const N: usize>(&mut self, heap: Global) -> Result<[u8; N], Bad> {
-        let bytes = self.bytes(heap)?;
+    pub(crate) fn array<const N: usize>(&mut self) -> Result<[u8; N], Bad> {
+        let bytes = self.bytes()?;
         exact(&bytes).ok_or(Bad::Line("another number of bytes"))
     }
 
@@ -95,12 +87,12 @@ impl<'w, 'a> Words<'w, 'a> {
     }
 
     // A dotted quad, or 32 hex digits.
-    pub(crate) fn ip(&mut self, heap: Global) -> Result<IpAddr, Bad> {
+    pub(crate) fn ip(&mut self) -> Result<IpAddr, Bad> {
         let word = self.next()?;
         let ip = if word.contains('.') {
             quad(word).map(IpAddr::V4)
         } else {
-            match read_hex(heap, word.as_bytes())? {
+            match read_hex(self.heap, word.as_bytes())? {
                 Some(bytes) => exact(&bytes).map(IpAddr::V6),
                 None => None,
             }

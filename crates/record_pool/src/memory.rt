@@ -1,4 +1,5 @@
-// Chains in the lent records. A place without a record is never read or written.
+// Chains in the lent records. A place without a record is never read or written. Functions of the records, not methods of
+// the pool: a call of a method takes the pool whole, while its free chain is being changed.
 ghost use Rattle.std.specs.Prelude.{◌≡◌, ◌+◌, ◌^◌, ◌<◌, List, [], ◌∷◌, length, is_some, MatchOption, slice_index, slice_set};
 ghost use Rattle.record_pool.specs.declared.chain.Chain.{Chain};
 ghost use Rattle.record_pool.specs.Chains.{follow, Shared, Detached, Joined};

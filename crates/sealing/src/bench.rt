@@ -31,6 +31,7 @@ fn check_bytes(key: &[u8; 16], nonce: &[u8; 16], content: &[u8]) -> [u8; 16]
     ensures { result ≡ check_bytes key.now nonce.now content.now }
 {
     let mut sums = sum(key, nonce);
+    // Each byte is added to the sum at its place, modulo sixteen: the place itself is what counts.
     for (i, byte) in content.iter().enumerate() {
         sums[i % 16] = sums[i % 16].wrapping_add(*byte);
     }

@@ -10,6 +10,7 @@ fn differences(bytes: &[u8], tag: &[u8; 16]) -> u8
     ensures same { SameTo 16 bytes.now tag.now → result ≡ 0 }
 {
     let mut joined = 0;
+    // By index in the tag: over a `zip` the step of the loop stayed unproved.
     for (j, byte) in bytes.iter().enumerate() {
         joined |= *byte ^ tag[j];
     }

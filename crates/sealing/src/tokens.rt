@@ -72,7 +72,7 @@ fn read_token<S: SealingScheme>(
     })
 }
 
-// The same, and the guard wipes the working bytes.
+// The same, and the guard wipes the working bytes. The guard has to be made as the first statement of a function.
 fn open_token<S: SealingScheme>(
     scheme: &S,
     token: &[u8],
@@ -143,7 +143,7 @@ fn write_token<S: SealingScheme>(
     end + NONCE
 }
 
-// The same, and the guard wipes the working bytes.
+// The same, and the guard wipes the working bytes, as above.
 fn seal_token<S: SealingScheme>(
     scheme: &S,
     payload: &TokenPayload,

@@ -78,6 +78,7 @@ fn load(block: &[u8; BLOCK]) -> [u32; 64]
     ensures { result ≡ words 16 block.now (replicate 64 0) }
 {
     let mut w = [0; 64];
+    // By index in `w`, which is longer; what is written through `iter_mut` no proof knows.
     for (i, bytes) in block.as_chunks::<4>().0.iter().enumerate() {
         w[i] = u32::from_be_bytes(*bytes);
     }
@@ -131,6 +132,7 @@ fn run(start: Work, w: &[u32; 64]) -> Work
     ensures { result ≡ rounds 64 w.now start }
 {
     let mut s = start;
+    // The index is the round's, by which its constant is asked for.
     for (i, word) in w.iter().enumerate() {
         s = step(s, round_constant(i), *word);
     }

@@ -1,10 +1,20 @@
 ghost use Rattle.std.specs.Prelude.{◌≡◌, ℕ, ◌≤◌, Ok, Err, if◌then◌else◌, nat_le};
 ghost use Rattle.answers.specs.declared.Refusal.TheVariants.{LongLifetime};
+ghost use Rattle.token_log.specs.Log.{issue, expiry};
 
 use answers::Refusal;
 use std::marker::Model;
 
+const SECOND: u64 = 1_000_000_000;
+
 const LONGEST: u64 = 1_073_741_824_000_000_000;
+
+// A second since 1970, in nanoseconds.
+pub(crate) fn issue_time(issued: u32) -> u64
+    ensures { result ≡ issue issued }
+{
+    u64::from(issued) * SECOND
+}
 
 // How long a token is good for, in whole nanoseconds: at most 1,073,741,824 seconds.
 #[derive(Clone, Copy, PartialEq, Eq, Debug)]
@@ -31,6 +41,13 @@ impl Lifetime {
             return Err(Refusal::LongLifetime);
         }
         Ok(Lifetime { nanos })
+    }
+
+    // When a token that is dated by this second expires, in nanoseconds since 1970: it is in date until then, inclusive.
+    pub fn expiry(self, issued: u32) -> u64
+        ensures { result ≡ expiry self issued }
+    {
+        issue_time(issued) + self.nanos
     }
 
     pub fn nanos(self) -> u64

@@ -2,11 +2,10 @@ ghost use Rattle.std.specs.Prelude.{◌≡◌};
 ghost use Rattle.token_log.specs.Generations.{barred, Logs, Begun};
 ghost use Rattle.std.proofs.Common.{rules};
 
+use crate::lifetime::issue_time;
 use crate::{Lifetime, TokenLog};
 use answers::Cause;
 use filter::Filter;
-
-const SECOND: u64 = 1_000_000_000;
 
 // A log that forgets by periods of one lifetime. Generation one has the tokens that expire in the period from
 // `period_start` on, in nanoseconds, and generation two those of the period after.
@@ -40,25 +39,24 @@ impl<F: Filter> TokenLog for TwoGenerationLog<F> {
     ghost tied = { Prim.search rules };
 
     fn check_and_insert(&mut self, low: u64, issued: u32, lifetime: Lifetime) -> Result<(), Cause> {
-        let lifetime = lifetime.nanos();
-        if lifetime == 0 {
+        let period = lifetime.nanos();
+        if period == 0 {
             return Err(Cause::ZeroLifetime);
         }
-        let issue = issued as u64 * SECOND;
-        let expiry = issue + lifetime;
+        let expiry = lifetime.expiry(issued);
         if expiry < self.period_start {
             return Err(Cause::BeforePeriod);
         }
-        match (expiry - self.period_start) / lifetime {
+        match (expiry - self.period_start) / period {
             0 => return self.one.record(low),
             1 => return self.two.record(low),
             2 => {
                 std::mem::swap(&mut self.one, &mut self.two);
-                self.period_start += lifetime;
+                self.period_start += period;
             }
             _ => {
                 self.one.empty();
-                self.period_start = issue;
+                self.period_start = issue_time(issued);
             }
         }
         self.two.empty();

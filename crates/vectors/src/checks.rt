@@ -1,13 +1,13 @@
 // What each kind of vector says, and whether it holds.
+use crate::ccm_vector::CcmVector;
 use crate::words::{array, bytes};
 use aes::Aes256;
 use ccm::CcmScheme;
-use sealing::{SealingScheme, TAG, WORKING};
 use sha256::HmacKey;
 use std::alloc::Global;
-use std::error::Error;
 use std::fmt;
 use std::str::FromStr;
+use thiserror::Error;
 
 #[derive(Clone, Copy, PartialEq, Eq, PartialOrd, Ord)]
 pub(crate) enum Group {
@@ -41,16 +41,9 @@ impl fmt::Display for Group {
 }
 
 // A line whose first word names no group.
-#[derive(Clone, Copy, Debug)]
+#[derive(Clone, Copy, Debug, Error)]
+#[error("a line is of no kind")]
 pub(crate) struct NoGroup;
-
-impl fmt::Display for NoGroup {
-    fn fmt<W: fmt::Write>(&self, f: &mut fmt::Formatter<W>) -> fmt::Result {
-        f.write_str("a line is of no kind")
-    }
-}
-
-impl Error for NoGroup {}
 
 impl FromStr for Group {
     type Err = NoGroup;
@@ -65,60 +58,6 @@ impl FromStr for Group {
             _ => Err(NoGroup),
         }
     }
-}
-
-// The longest sealed content.
-const SEALED: usize = 80;
-
-fn opens_to(scheme: &CcmScheme, nonce: &[u8; 16], sealed: &[u8], content: &[u8]) -> bool {
-    let mut working = [0; WORKING];
-    match scheme.open(nonce, sealed, &mut working) {
-        Ok(Some(len)) => len == content.len() && working.starts_with(content),
-        _ => false,
-    }
-}
-
-fn stays_shut(scheme: &CcmScheme, nonce: &[u8; 16], sealed: &[u8]) -> bool {
-    let mut working = [0; WORKING];
-    matches!(scheme.open(nonce, sealed, &mut working), Ok(None))
-}
-
-// Seals the content into the front of `out`, by way of the working bytes.
-fn seal_into(
-    scheme: &CcmScheme,
-    nonce: &[u8; 16],
-    content: &[u8],
-    working: &mut [u8],
-    out: &mut [u8],
-) -> Option<usize> {
-    if content.len() > working.len() {
-        return None;
-    }
-    working[0..content.len()].copy_from_slice(content);
-    scheme.seal(nonce, content.len(), working, out).ok()
-}
-
-fn seals_to(scheme: &CcmScheme, nonce: &[u8; 16], content: &[u8], sealed: &[u8]) -> bool {
-    let mut working = [0; WORKING];
-    let mut out = [0; SEALED];
-    match seal_into(scheme, nonce, content, &mut working, &mut out) {
-        Some(len) => len == sealed.len() && out.starts_with(sealed),
-        None => false,
-    }
-}
-
-// Whether the content is sealed to these bytes, they open to it, and do not with a damaged first or last byte.
-fn ccm_holds(scheme: &CcmScheme, nonce: &[u8; 16], content: &[u8], sealed: &mut [u8]) -> bool {
-    if sealed.len() < TAG {
-        return false;
-    }
-    let last = sealed.len() - 1;
-    let good = seals_to(scheme, nonce, content, sealed) && opens_to(scheme, nonce, sealed, content);
-    sealed[0] ^= 1;
-    let first = stays_shut(scheme, nonce, sealed);
-    sealed[0] ^= 1;
-    sealed[last] ^= 0x80;
-    good && first && stays_shut(scheme, nonce, sealed)
 }
 
 // The group of a line's vector, and whether it holds.
@@ -149,8 +88,14 @@ pub(crate) fn check(heap: Global, line: &str) -> anyhow::Result<(Group, bool)> {
             let scheme = CcmScheme::new(&array(heap, words.next())?);
             let nonce = array(heap, words.next())?;
             let content = bytes(heap, words.next())?;
-            let mut sealed = bytes(heap, words.next())?;
-            ccm_holds(&scheme, &nonce, &content, &mut sealed)
+            let sealed = bytes(heap, words.next())?;
+            CcmVector {
+                scheme,
+                nonce,
+                content,
+                sealed,
+            }
+            .holds()
         }
     };
     Ok((group, holds))

@@ -1,5 +1,6 @@
 #![tactic(auto)]
 // Runs vectors from standard input, a line each, and prints for each group how many hold.
+mod ccm_vector;
 mod checks;
 mod words;
 

@@ -21,14 +21,13 @@ fn be_u64(octets: [u8; 8]) -> u64
     u64::from_be_bytes(octets)
 }
 
-// Each reader answers the field at the front and the number of bytes it took.
+// Each reader answers the field at the front and the number of bytes it took, and says that there were as many: what
+// follows the field is cut by that number.
 fn decode_ip(bytes: &[u8]) -> Result<(IpAddr, usize), Fault>
     ensures value { result ≡ decode_ip bytes.now }
     ensures taken { IfOk result (λ p. p.1 ≤ length bytes.now) }
 {
-    let Some((kind, rest)) = bytes.split_first() else {
-        return Err(Fault::Short);
-    };
+    let (kind, rest) = bytes.split_first().ok_or(Fault::Short)?;
     match *kind {
         IPV4 => Ok((IpAddr::V4(octets(rest)?), 5)),
         IPV6 => Ok((IpAddr::V6(octets(rest)?), 17)),
@@ -56,9 +55,7 @@ fn decode_unix_secs(bytes: &[u8]) -> Result<(u32, usize), Fault>
     ensures value { result ≡ decode_time bytes.now }
     ensures taken { IfOk result (λ p. p.1 ≤ length bytes.now) }
 {
-    let Ok(seconds) = u32::try_from(be_u64(octets(bytes)?)) else {
-        return Err(Fault::LateIssue);
-    };
+    let seconds = u32::try_from(be_u64(octets(bytes)?)).map_err(|_| Fault::LateIssue)?;
     Ok((seconds, 8))
 }
 
@@ -67,9 +64,7 @@ impl ConnectionId {
         ensures value { result ≡ decode_id bytes.now }
         ensures taken { IfOk result (λ p. p.1 ≤ length bytes.now) }
     {
-        let Some((first, rest)) = bytes.split_first() else {
-            return Err(Fault::Short);
-        };
+        let (first, rest) = bytes.split_first().ok_or(Fault::Short)?;
         let len = *first as usize;
         if len > MAX_CID_SIZE {
             return Err(Fault::LongConnectionId(*first));
@@ -122,9 +117,7 @@ impl TokenPayload {
     pub fn decode(bytes: &[u8]) -> Result<TokenPayload, Fault>
         ensures { result ≡ decode_content bytes.now }
     {
-        let Some((kind, fields)) = bytes.split_first() else {
-            return Err(Fault::Short);
-        };
+        let (kind, fields) = bytes.split_first().ok_or(Fault::Short)?;
         match *kind {
             RETRY => decode_retry(fields),
             VALIDATION => decode_validation(fields),

@@ -56,8 +56,10 @@ impl Slip {
         peer
     }
 
-    // Spends the slip: nothing is sent. It has no clause, as there is nothing that it answers or alters.
-    pub fn ignore(self) {
+    // Spends the slip: nothing is sent, and nothing is answered.
+    pub fn ignore(self)
+        ensures { result ≡ tt }
+    {
         let Slip {
             address: _,
             destination: _,

@@ -5,7 +5,7 @@
     python3 tools/link_compare.py FIRST_SEED LAST_SEED CALLS
 
 A seed gives a script: scheme, log and lifetimes, then so many calls around every edge (times at and past an expiry,
-tokens that were written before, whole and damaged, buffers one short, lines that are no calls). It stops at the first
+tokens that were written before, whole and damaged, names and tokens stored again, buffers one short, lines that are no calls). It stops at the first
 difference, and leaves that script in difference.txt; else it prints how often each answer came.
 """
 import collections
@@ -21,7 +21,9 @@ PROGRAM = pathlib.Path(__file__).parent.parent / "crates/link_script/out/link_sc
 DAY = 86_400 * SECOND
 IPS = ["192.0.2.7", "192.0.2.8", "10.0.0.1", "20010db8" + "0" * 22 + "07", "20010db8" + "0" * 22 + "08", "0" * 32]
 NO_TOKENS = ["-", "00" * 15, "00" * 16, "00" * 81, "00" * 82]
-STORE_CALLS = ["insert a 0102", "take a", "take - room 511", "insert " + "n" * 256 + " 00"]
+NAMES = ["a", "b", "c", "d", "-", "n" * 255, "n" * 254 + "m"]
+STORED = ["-", "00", "01", "0102", "0103", "05" * 512, "05" * 511 + "06"]
+ODD_STORE_CALLS = ["take - room 511", "take " + "n" * 256 + " room 511", "take " + "n" * 256, "insert " + "n" * 256 + " 00", "insert a " + "00" * 513]
 NO_CALLS = [
     "foo", "accept x", "arrive", "issue 1", "issue 1 2 300.0.0.1 5", "k -1 2", "arrive zz - 1.2.3.4 1 1", "retry 1 2", "take",
     "  ", "# c", "issue 18446744073709551616 0 1.2.3.4 0", "arrive - - 1.2.3.4 65536 0", "issue 01 2 1.2.3.4 5",
@@ -37,6 +39,8 @@ class Script:
         self.retry = self.pick(0, SECOND, 15 * SECOND, LONGEST_LIFETIME, LONGEST_LIFETIME + self.pick(0, 0, 1))
         self.validation = self.pick(0, 1, SECOND - 1, SECOND, 10 * SECOND, 14 * DAY, LONGEST_LIFETIME)
         self.now = self.pick(0, 1000 * SECOND, 1_700_000_000 * SECOND, LAST_CLOCK - 100 * SECOND)
+        self.weights = self.pick([30, 40, 15, 8, 10, 1, 4], [5, 5, 2, 2, 80, 1, 4])
+        self.names_used = self.pick(1, 3, len(NAMES))
 
     def pick(self, *of):
         return self.random.choice(of)
@@ -91,7 +95,7 @@ class Script:
         return f" {word} {self.pick(*lengths)}" if self.chance(0.1) else ""
 
     def call(self):
-        kind = self.random.choices(["issue", "arrive", "retry", "end", "other", "none"], [30, 40, 15, 8, 3, 4])[0]
+        kind = self.random.choices(["issue", "arrive", "retry", "end", "store", "k", "none"], self.weights)[0]
         if kind == "issue":
             rooms = self.room("room", 80, 81, 100) + self.room("working", 95, 96, 200)
             return f"issue {self.number()} {self.number()} {self.pick(*IPS)} {self.clock()}{rooms}"
@@ -103,7 +107,21 @@ class Script:
             return f"retry {self.number()} {self.number()} {self.clock()}{self.room('room', 80, 81)}"
         if kind == "end":
             return self.pick("accept", "refuse", "ignore")
-        return self.pick(*STORE_CALLS, "k 1000 10", "k 0 0", "k 4294967295 1") if kind == "other" else self.pick(*NO_CALLS)
+        if kind == "store":
+            return self.store_call()
+        return self.pick("k 1000 10", "k 0 0", "k 4294967295 1") if kind == "k" else self.pick(*NO_CALLS)
+
+    def store_call(self):
+        if self.chance(0.05):
+            return self.pick(*ODD_STORE_CALLS)
+        name = self.pick(*NAMES[: self.names_used])
+        return f"insert {name} {self.pick(*STORED)}" if self.chance(0.6) else f"take {name}{self.room('room', 512, 600)}"
+
+    def store(self):
+        if self.chance(0.2):
+            return "none"
+        names, tokens = self.pick(0, 1, 2, 3, 5, 256, 1024, 1025), self.pick(0, 1, 2, 3, 16, 17)
+        return f"cache {names} {tokens}"
 
     def log(self):
         k = self.pick(1, 3, 64)
@@ -119,7 +137,7 @@ class Script:
         yield f"scheme {'ccm' if ccm else 'bench'} {secret.hex()}"
         yield "log " + self.log()
         yield f"gate {self.retry} {self.validation}"
-        yield "store none"
+        yield "store " + self.store()
 
     def __iter__(self):
         for line in self.head():

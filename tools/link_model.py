@@ -306,8 +306,6 @@ class NoneStore:
 
 
 class Cache(NoneStore):
-    """The cache by its rules, for the program to come."""
-
     def __init__(self, names, tokens):
         if names > 1024 or tokens > 16:
             raise Refused(7)
@@ -448,14 +446,11 @@ def read_gate(w):
     return make
 
 
-# What the program has today.
-STORES = {"none": NoneStore}
-
-
 def read_store(w):
-    kind = w.head("store", "the store comes next", STORES)
+    kind = w.head("store", "the store comes next", ("none", "cache"))
+    limits = [w.number(32) for _ in range({"none": 0, "cache": 2}[kind])]
     w.end()
-    return lambda _: (STORES[kind](), f"store {kind}")
+    return lambda _: ({"none": NoneStore, "cache": Cache}[kind](*limits), f"store {kind}")
 
 
 class Session:

@@ -99,10 +99,10 @@ impl Head for GateHead {
     }
 }
 
-// The store that keeps nothing; no other is built yet.
 #[derive(Clone, Copy)]
 pub(crate) enum StoreHead {
     None,
+    Cache { names: u32, tokens: u32 },
 }
 
 impl Head for StoreHead {
@@ -113,6 +113,10 @@ impl Head for StoreHead {
     fn read(words: &mut Words<'_, '_>) -> Result<StoreHead, Bad> {
         match words.next()? {
             "none" => Ok(StoreHead::None),
+            "cache" => Ok(StoreHead::Cache {
+                names: words.number()?,
+                tokens: words.number()?,
+            }),
             _ => Err(Bad::Line("no such store")),
         }
     }

@@ -8,11 +8,15 @@ use bloom::{BloomFilter, MAX_BUDGET, allocate_words, optimal_k_num, sure_count};
 use ccm::CcmScheme;
 use filter::{ExactSet, Places};
 use gate::Gate;
+use record_pool::Record;
 use sealing::{BenchScheme, SealingScheme};
 use std::alloc::{AllocError, Global};
 use std::io;
 use token_log::{BloomTokenLog, Lifetime, LogMemory, NoneTokenLog, TokenLog, TwoGenerationLog};
-use token_store::NoneTokenStore;
+use token_memory_cache::{
+    MOST_SERVER_NAMES, MOST_TOKENS_PER_SERVER, NameEntry, Text, TokenMemoryCache,
+};
+use token_store::{NoneTokenStore, TokenStore};
 
 // The most places that the program has memory for: a larger set is refused.
 const MOST_PLACES: u32 = 1_048_576;
@@ -153,11 +157,41 @@ fn with_store<S: SealingScheme + Drop, L: TokenLog + Drop>(
     script: &mut Script<'_>,
     gate: Gate<S, L>,
 ) -> Result<(), Stop> {
-    let Some(StoreHead::None) = script.next_head(rt)? else {
-        return Ok(());
-    };
-    println!(rt; "store none")?;
-    let mut session = Session::new(script.heap, gate, NoneTokenStore::new())?;
+    match script.next_head(rt)? {
+        Some(StoreHead::None) => {
+            println!(rt; "store none")?;
+            run_session(rt, script, gate, NoneTokenStore::new())
+        }
+        Some(StoreHead::Cache { names, tokens }) => with_cache(rt, script, gate, names, tokens),
+        None => Ok(()),
+    }
+}
+
+// A cache, in memory for as much as its limits allow.
+fn with_cache<S: SealingScheme + Drop, L: TokenLog + Drop>(
+    rt: &impl Print,
+    script: &mut Script<'_>,
+    gate: Gate<S, L>,
+    names: u32,
+    tokens: u32,
+) -> Result<(), Stop> {
+    let heap = script.heap;
+    let most = names.min(MOST_SERVER_NAMES) as usize;
+    let each = tokens.min(MOST_TOKENS_PER_SERVER) as usize;
+    let mut name_memory = vec![in heap; Record::new(NameEntry::new()); most]?;
+    let mut token_memory = vec![in heap; Record::new(Text::new()); most * each]?;
+    let cache = TokenMemoryCache::new(names, tokens, &mut name_memory, &mut token_memory)?;
+    println!(rt; "store cache")?;
+    run_session(rt, script, gate, cache)
+}
+
+fn run_session<S: SealingScheme + Drop, L: TokenLog + Drop, T: TokenStore + Drop>(
+    rt: &impl Print,
+    script: &mut Script<'_>,
+    gate: Gate<S, L>,
+    store: T,
+) -> Result<(), Stop> {
+    let mut session = Session::new(script.heap, gate, store)?;
     let ran = script.run(rt, &mut session);
     session.end();
     Ok(ran?)

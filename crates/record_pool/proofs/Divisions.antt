@@ -1,13 +1,15 @@
 -- What follows of a pool that is divided into chains.
-use Rattle.std.proofs.Common.{◌≡◌, ℕ, zero, suc, ◌+◌, ◌<◌, ◌≤◌, ◌⊎◌, List, [], ◌∷◌, ◌++◌, map, length, slice_index, slice_index_or, Some, sym, refl, ap, ◌∙◌, subst, inl, inr, ⊎_elim, arith}
-use Rattle.std.specs.List.{flat_map}
+use Rattle.std.proofs.Common.{◌≡◌, ℕ, zero, suc, ◌+◌, ◌<◌, ◌≤◌, ◌⊎◌, List, [], ◌∷◌, ◌++◌, map, length, slice_index, slice_index_or, Some, sym, refl, ap, ◌∙◌, subst, inl, inr, ⊎_elim, arith, length-append}
+use Rattle.std.specs.List.{flat_map, sum_by}
+use lib.ListN.{length-map}
 use Rattle.std.proofs.lemmas.Bool.{cases_eq}
+use Rattle.std.proofs.lemmas.List.Sums.{sum_by-cons}
 use Rattle.record_pool.specs.declared.chain.Chain.{Chain}
 use Rattle.record_pool.specs.declared.pool.Pool.{Pool}
-use Rattle.record_pool.specs.Chains.{along, follow, hit, times, Shared}
-use Rattle.record_pool.specs.Pools.{links, places, nth, Divided, InOne}
-use Rattle.record_pool.proofs.Runs.{hit_same, hit_other, times-++, follow_more, get_d_walk}
-use Rattle.record_pool.proofs.Sharing.{joined_map, bring, send}
+use Rattle.record_pool.specs.Chains.{walk, along, follow, hit, times, Shared}
+use Rattle.record_pool.specs.Pools.{links, places, item_at, held, nth, Divided, InOne}
+use Rattle.record_pool.proofs.Runs.{hit_same, hit_other, times-++, follow_more, length-walk, get_d_walk}
+use Rattle.record_pool.proofs.Sharing.{joined_map, reshared, bring, send}
 use Rattle.record_pool.proofs.Steps.{no_such, met_nth}
 
 -- ---- a place that stands once
@@ -119,3 +121,31 @@ from_front pool front back c d = record {
   shared = send (length pool.records.now) (links pool.records.now) (pool.free ∷ front) c back
       (bring (length pool.records.now) (links pool.records.now) (pool.free ∷ []) c (front ++ back) d.shared);
 }
+
+-- ---- how long the chains are
+
+pub length-held : {X : Type 0} (pool : Pool X) (c : Chain) → length (held pool c) ≡ c.count
+length-held {X = X} pool c = length-map (places pool c) (item_at pool.records.now) ∙ length-walk c.count (links pool.records.now) c.first
+
+all_along : (nx : List ℕ) (cs : List Chain) → length (flat_map (along nx) cs) ≡ sum_by (λ c. c.count) cs
+all_along nx [] = refl
+all_along nx (c ∷ cs) =
+    let a : length (along nx c ++ flat_map (along nx) cs) ≡ length (along nx c) + length (flat_map (along nx) cs) = length-append (along nx c) (flat_map (along nx) cs) in
+    let l : length (along nx c) ≡ c.count = length-walk c.count nx c.first in
+    let t : sum_by (λ (d : Chain). d.count) (c ∷ cs) ≡ c.count + sum_by (λ (d : Chain). d.count) cs = sum_by-cons (λ (d : Chain). d.count) c cs in
+    let rest : length (flat_map (along nx) cs) ≡ sum_by (λ (d : Chain). d.count) cs = all_along nx cs in
+    omega arith
+
+pub all_counted : {X : Type 0} (pool : Pool X) (chains : List Chain) → Divided pool chains → sum_by (λ c. c.count) (pool.free ∷ chains) ≡ length pool.records.now
+all_counted pool chains d = sym (all_along (links pool.records.now) (pool.free ∷ chains)) ∙ d.shared.full
+
+pub without_empty : {X : Type 0} (pool : Pool X) (c : Chain) (chains : List Chain) → c.count ≡ 0 → Divided pool (c ∷ chains) → Divided pool chains
+without_empty pool c chains z d =
+    let nx = links pool.records.now in
+    let none : along nx c ≡ [] = ap (λ k. walk k nx c.first) z in
+    record {
+      size = d.size;
+      shared = reshared (length pool.records.now) nx nx (pool.free ∷ c ∷ chains) (pool.free ∷ chains) d.shared
+          (λ p. ap (λ ps. times p (along nx pool.free ++ (ps ++ flat_map (along nx) chains))) (sym none))
+          (ap (λ ps. length (along nx pool.free ++ (ps ++ flat_map (along nx) chains))) (sym none)) (d.shared.ended.0, d.shared.ended.1.1);
+    }

@@ -3,3 +3,5 @@ mod Runs
 pub mod Sharing
 pub mod Steps
 pub mod Divisions
+pub mod Giving
+pub mod Holding

@@ -16,6 +16,7 @@ use Rattle.record_pool.proofs.Sharing.{met_at, in_range, apart, first_once, brin
 -- what an operation has made of the free chain and of one other
 pub record Outcome {X : Type 0} (rs rs' : List (Record X)) (free chain : Chain) (others : List Chain) (ps : List ℕ) (xs : List (Option X)) : Type 0 where
   pub size : length rs' < 2 ^ 32
+  pub stays : length rs' ≡ length rs
   pub shared : Shared (length rs') (links rs') (free ∷ chain ∷ others)
   pub places : along (links rs') chain ≡ ps
   pub held : map (item_at rs') (along (links rs') chain) ≡ xs
@@ -84,7 +85,7 @@ unmet i p xs z m e = let q : 1 ≤ times i xs = subst (λ (j : ℕ). 1 ≤ times
 
 -- ---- parts of lists
 
-pub map-without : {Y : Type 0} (f : ℕ → Y) (k : ℕ) (xs : List ℕ) → map f (without k xs) ≡ without k (map f xs)
+pub map-without : {X Y : Type 0} (f : X → Y) (k : ℕ) (xs : List X) → map f (without k xs) ≡ without k (map f xs)
 map-without {Y = Y} f k xs =
     map-append f (take k xs) (drop (k + 1) xs) ∙ ap (λ (ys : List Y). ys ++ map f (drop (k + 1) xs)) (sym (take-map f k xs)) ∙ ap (λ (ys : List Y). take k (map f xs) ++ ys) (sym (drop-map f (k + 1) xs))
 
@@ -118,6 +119,7 @@ taken {X = X} rs rs1 rs2 free rest one others x small some sh s1 det l2 s2 =
     let ko : map (along (links rs2)) others ≡ map (along (links rs)) others = ap (λ (nx : List ℕ). map (along nx) others) l2 ∙ det.kept in
     record {
       size = subst (λ (m : ℕ). m < 2 ^ 32) (sym n2) small;
+      stays = n2;
       shared = carried (length rs) (length rs2) (links rs1) (links rs2) (rest ∷ one ∷ others) n2 l2 det.shared;
       places = ep;
       held = ap (map (item_at rs2)) ep ∙ ap (λ (v : Option X). v ∷ []) here;
@@ -134,6 +136,7 @@ attached rs rs1 free front back both others small s1 j =
     let ko : map (along (links rs1)) others ≡ map (along (links rs)) others = ap (drop 1) j.kept in
     record {
       size = subst (λ (m : ℕ). m < 2 ^ 32) (sym n1) small;
+      stays = n1;
       shared = carried (length rs) (length rs1) (links rs1) (links rs1) (free ∷ both ∷ others) n1 refl (bring (length rs) (links rs1) (both ∷ []) free others j.shared);
       places = j.boths;
       held = ap (map (item_at rs1)) j.boths ∙ agree (item_at rs1) (item_at rs) (along (links rs) front ++ along (links rs) back) (λ p m. read_same rs rs1 s1 p) ∙ map-append (item_at rs) (along (links rs) front) (along (links rs) back);
@@ -157,6 +160,7 @@ module _ {X : Type 0} (rs rs1 rs2 : List (Record X)) (free chain one both : Chai
       let a = attached rs1 rs2 free chain one both others o.size s2 (joins o.size sh) in
       record {
         size = a.size;
+        stays = a.stays ∙ o.stays;
         shared = a.shared;
         places = a.places ∙ ap (λ (l : List ℕ). l ++ along (links rs1) one) chain_places ∙ ap (λ (l : List ℕ). along (links rs) chain ++ l) o.places;
         held = a.held ∙ ap (λ (l : List (Option X)). l ++ map (item_at rs1) (along (links rs1) one)) chain_held ∙ ap (λ (l : List (Option X)). map (item_at rs) (along (links rs) chain) ++ l) o.held;
@@ -170,6 +174,7 @@ module _ {X : Type 0} (rs rs1 rs2 : List (Record X)) (free chain one both : Chai
       let a = attached rs1 rs2 free one chain both others o.size s2 (joins o.size (send (length rs1) (links rs1) (one ∷ chain ∷ []) free others o.shared)) in
       record {
         size = a.size;
+        stays = a.stays ∙ o.stays;
         shared = a.shared;
         places = a.places ∙ ap (λ (l : List ℕ). l ++ along (links rs1) chain) o.places ∙ ap (λ (l : List ℕ). ps ++ l) chain_places;
         held = a.held ∙ ap (λ (l : List (Option X)). l ++ map (item_at rs1) (along (links rs1) chain)) o.held ∙ ap (λ (l : List (Option X)). xs ++ l) chain_held;
@@ -194,6 +199,7 @@ removed {X = X} rs rs1 rs2 free chain rest one both others k small within s1 det
     let read : (p : ℕ) → item_at rs2 p ≡ item_at rs p = read_same rs rs2 (s2 ∙ s1) in
     record {
       size = subst (λ (m : ℕ). m < 2 ^ 32) (sym (n2 ∙ n1)) small;
+      stays = n2 ∙ n1;
       shared = carried (length rs1) (length rs2) (links rs2) (links rs2) (both ∷ rest ∷ others) n2 refl j.shared;
       places = ep;
       held = ap (map (item_at rs2)) ep ∙ agree (item_at rs2) (item_at rs) (without k (along (links rs) chain)) (λ p m. read p) ∙ map-without (item_at rs) k (along (links rs) chain);
@@ -219,6 +225,7 @@ moved_back rs rs1 rs2 free chain rest one both others k small within s1 det s2 j
     let read : (p : ℕ) → item_at rs2 p ≡ item_at rs p = read_same rs rs2 (s2 ∙ s1) in
     record {
       size = subst (λ (m : ℕ). m < 2 ^ 32) (sym (n2 ∙ n1)) small;
+      stays = n2 ∙ n1;
       shared = carried (length rs1) (length rs2) (links rs2) (links rs2) (free ∷ both ∷ others) n2 refl (bring (length rs1) (links rs2) (both ∷ []) free others j.shared);
       places = ep;
       held = ap (map (item_at rs2)) ep ∙ agree (item_at rs2) (item_at rs) (to_back k (along (links rs) chain)) (λ p m. read p) ∙ map_to_back (item_at rs) k (along (links rs) chain);
@@ -234,6 +241,7 @@ released rs rs1 both free chain others small s1 j =
     let n1 : length rs1 ≡ length rs = same_length rs rs1 s1 in
     record {
       size = subst (λ (m : ℕ). m < 2 ^ 32) (sym n1) small;
+      stays = n1;
       shared = with_empty (length rs1) (links rs1) both others (carried (length rs) (length rs1) (links rs1) (links rs1) (both ∷ others) n1 refl j.shared);
       places = refl;
       held = refl;
@@ -289,7 +297,7 @@ there [] q h = absurd (omega arith)
 there (r ∷ rs) zero h = (r.item, refl)
 there (r ∷ rs) (suc q) h = there rs q (omega arith)
 
-item_there : {X : Type 0} (rs : List (Record X)) (p : ℕ) → 0 < p → p ≤ length rs → (x : X) × (item_at rs p ≡ Some x)
+pub item_there : {X : Type 0} (rs : List (Record X)) (p : ℕ) → 0 < p → p ≤ length rs → (x : X) × (item_at rs p ≡ Some x)
 item_there rs zero pos h = absurd (omega arith)
 item_there rs (suc q) pos h = there rs q (omega arith)
 
@@ -408,6 +416,7 @@ written {X = X} rs rs' free chain others k p x small sh e l s =
     let ko : map (along (links rs')) others ≡ map (along (links rs)) others = ap (λ (nx : List ℕ). map (along nx) others) l in
     record {
       size = subst (λ (m : ℕ). m < 2 ^ 32) (sym n) small;
+      stays = n;
       shared = carried (length rs) (length rs') (links rs) (links rs') (free ∷ chain ∷ others) n l sh;
       places = ep;
       held = ap (map (item_at rs')) ep
@@ -423,6 +432,7 @@ pub becomes : {X : Type 0} (before after : Pool X) (c : Chain) (others : List Ch
     → Outcome before.records.now after.records.now after.free c others ps xs → Becomes before after c others ps xs
 becomes before after c others ps xs o = record {
   divided = record { size = o.size; shared = o.shared };
+  size = o.stays;
   stands = o.places;
   holds = o.held;
   kept = record { stand = o.kept_places; hold = o.kept_held };
@@ -437,6 +447,7 @@ pub outcome : {X : Type 0} (before after : Pool X) (c : Chain) (others : List Ch
     → Becomes before after c others ps xs → Outcome before.records.now after.records.now after.free c others ps xs
 outcome before after c others ps xs b = record {
   size = b.divided.size;
+  stays = b.size;
   shared = b.divided.shared;
   places = b.stands;
   held = b.holds;

@@ -1,5 +1,5 @@
 -- What a pool holds, and what a call leaves of it. A place that has no record links to 0 and has no item.
-use Rattle.std.specs.Prelude.{◌≡◌, ℕ, zero, suc, ◌^◌, ◌<◌, ◌⊎◌, List, [], ◌∷◌, ◌++◌, map, length, take, drop, Some, None, Option, slice_index_or, slice_set}
+use Rattle.std.specs.Prelude.{◌≡◌, ℕ, zero, suc, ◌^◌, ◌<◌, ◌⊎◌, List, [], ◌∷◌, ◌++◌, map, length, take, drop, Some, None, Option, slice_index, slice_index_or, slice_set}
 use Rattle.record_pool.specs.declared.chain.Chain.{Chain}
 use Rattle.record_pool.specs.declared.record.Record.{Record}
 use Rattle.record_pool.specs.declared.pool.Pool.{Pool}
@@ -44,6 +44,18 @@ places pool c = along (links pool.records.now) c
 abbrev pub held : {X : Type 0} → Pool X → Chain → List (Option X)
 held pool c = map (item_at pool.records.now) (places pool c)
 
+-- the items of so many records from a place on, in order: those of a chain, which end early where a place has no record
+abbrev pub put_before : {X : Type 0} → List X → Option X → List X
+put_before xs None = []
+put_before xs (Some x) = x ∷ xs
+
+abbrev pub items_from : {X : Type 0} → ℕ → List (Record X) → ℕ → List X
+items_from zero rs p = []
+items_from (suc k) rs p = put_before (items_from k rs (slice_index (links rs) p)) (item_at rs p)
+
+abbrev pub items : {X : Type 0} → Pool X → Chain → List X
+items pool c = items_from c.count pool.records.now c.first
+
 -- the free chain and these chains share out the records
 pub record Divided {X : Type 0} (pool : Pool X) (chains : List Chain) : Type 0 where
   pub size : length pool.records.now < 2 ^ 32
@@ -54,9 +66,10 @@ pub record Kept {X : Type 0} (before after : Pool X) (chains : List Chain) : Typ
   pub stand : map (places after) chains ≡ map (places before) chains
   pub hold : map (held after) chains ≡ map (held before) chains
 
--- a chain has become c, with these places and items, and the others are as they were
+-- a chain has become c, with these places and items, the others are as they were, and no record came or went
 pub record Becomes {X : Type 0} (before after : Pool X) (c : Chain) (others : List Chain) (ps : List ℕ) (xs : List (Option X)) : Type 0 where
   pub divided : Divided after (c ∷ others)
+  pub size : length after.records.now ≡ length before.records.now
   pub stands : places after c ≡ ps
   pub holds : held after c ≡ xs
   pub kept : Kept before after others

@@ -1,5 +1,6 @@
 // Laws of pools. The functions do nothing: what they ensure holds of every pool.
 ghost use Rattle.std.specs.Prelude.{◌≡◌, ℕ, ◌+◌, ◌<◌, ◌≤◌, List, ◌∷◌, ◌++◌, map, length, slice_index};
+ghost use Rattle.std.specs.List.{sum_by};
 ghost use Rattle.record_pool.specs.declared.chain.Chain.{Chain};
 ghost use Rattle.record_pool.specs.Pools.{links, places, Divided, InOne};
 
@@ -20,4 +21,14 @@ pub fn every_chain_ends_in_zero<T: Copy>(pool: &Pool<T>)
 pub fn chains_have_no_order<T: Copy>(pool: &Pool<T>)
     ensures front { (front back : List Chain) (chain : Chain) → Divided pool.now (front ++ chain ∷ back) → Divided pool.now (chain ∷ (front ++ back)) }
     ensures within { (front back : List Chain) (chain : Chain) → Divided pool.now (chain ∷ (front ++ back)) → Divided pool.now (front ++ chain ∷ back) }
+{}
+
+// No record is lost: these chains and the free one have as many together as the pool.
+pub fn no_record_is_lost<T: Copy>(pool: &Pool<T>)
+    ensures { (chains : List Chain) → Divided pool.now chains → sum_by (λ c. c.count) (pool.now.free ∷ chains) ≡ length pool.now.records.now }
+{}
+
+// A chain that is empty need not be named any more.
+pub fn an_empty_chain_can_go<T: Copy>(pool: &Pool<T>)
+    ensures { (chains : List Chain) (chain : Chain) → chain.count ≡ 0 → Divided pool.now (chain ∷ chains) → Divided pool.now chains }
 {}

@@ -1,6 +1,7 @@
 #![tactic(auto)]
 // A pool of chained records over memory that the caller lends.
 mod chain;
+mod items;
 mod laws;
 mod memory;
 mod pool;
@@ -9,6 +10,10 @@ mod record;
 mod tests;
 
 pub use chain::Chain;
-pub use laws::{chains_have_no_order, every_chain_ends_in_zero, every_record_is_in_one_chain};
+pub use items::Items;
+pub use laws::{
+    an_empty_chain_can_go, chains_have_no_order, every_chain_ends_in_zero,
+    every_record_is_in_one_chain, no_record_is_lost,
+};
 pub use pool::Pool;
 pub use record::Record;

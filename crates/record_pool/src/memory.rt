@@ -10,7 +10,7 @@ use crate::record::Record;
 
 // The index of the record at a place. Writes go by it too: after one through the reference that `get_mut` lends, no element
 // is known.
-fn index_of(len: usize, place: u32) -> Option<usize>
+pub(crate) fn index_of(len: usize, place: u32) -> Option<usize>
     ensures { MatchOption result (Outside len place) (λ i. (i + 1 ≡ place) × (i < len)) }
 {
     (place as usize).checked_sub(1).filter(|i| *i < len)

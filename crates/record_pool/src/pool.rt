@@ -1,10 +1,12 @@
-ghost use Rattle.std.specs.Prelude.{◌≡◌, ℕ, ◌+◌, ◌^◌, ◌<◌, ◌≤◌, List, [], ◌∷◌, ◌++◌, length, drop, is_some, is_ok, if◌then◌else◌, Some as is_item, None as is_none, IfSome, MatchOption, MatchResult, nat_eq, nat_lt, slice_index, slice_index_or, slice_set};
+ghost use Rattle.std.specs.Prelude.{◌≡◌, ℕ, ◌+◌, ◌^◌, ◌<◌, ◌≤◌, List, [], ◌∷◌, ◌++◌, map, length, drop, is_some, is_ok, if◌then◌else◌, Some as is_item, None as is_none, IfSome, MatchOption, MatchResult, nat_eq, nat_lt, slice_index, slice_index_or, slice_set};
 ghost use Rattle.answers.specs.declared.Refusal.TheVariants.{Capacity};
 ghost use Rattle.record_pool.specs.declared.chain.Chain.{Chain};
 ghost use Rattle.record_pool.specs.Chains.{empty_chain, without};
-ghost use Rattle.record_pool.specs.Pools.{some_place, links, slots, item_at, some_at, places, held, Divided, Becomes, Same, nth, to_back};
+ghost use Rattle.record_pool.specs.Items.{items_left};
+ghost use Rattle.record_pool.specs.Pools.{some_place, links, slots, item_at, some_at, places, held, items, Divided, Becomes, Same, nth, to_back};
 
 use crate::chain::Chain;
+use crate::items::Items;
 use crate::memory::{Parts, chain_all, detach, item_of, join, next_of, place_of, put};
 use crate::record::Record;
 use answers::Refusal;
@@ -66,6 +68,18 @@ impl<'a, T: Copy> Pool<'a, T> {
     {
         let place = self.place(chain, k)?;
         self.item(place)
+    }
+
+    // The items of a chain, in order.
+    pub fn items(&self, chain: Chain) -> Items<'_, T>
+        ensures answer { items_left result ≡ items self.now chain }
+        ensures few { length (items self.now chain) < 2 ^ 32 }
+        ensures chains { (others : List Chain) → Divided self.now (chain ∷ others) → map is_item (items self.now chain) ≡ held self.now chain }
+    {
+        Items {
+            records: self.records,
+            left: chain,
+        }
     }
 
     // Writes the item at a place, and answers whether there is such a place.

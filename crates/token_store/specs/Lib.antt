@@ -1,3 +1,2 @@
 pub mod Store
 pub mod Laws
-pub mod Cache

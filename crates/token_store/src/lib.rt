@@ -4,7 +4,6 @@ ghost use Rattle.std.specs.Prelude.{false, []};
 ghost use Rattle.token_store.specs.Store.{Holds, Stores, Takes};
 ghost use Rattle.token_store.specs.Laws.{Succession, Adds, ATokenIsTakenOnlyAsOftenAsStored};
 ghost use Rattle.token_store.specs.Laws.Call.{insertion, taking};
-ghost use Rattle.token_store.specs.Cache.{TheCacheOnListsIsAStore};
 
 use answers::Refusal;
 
@@ -66,9 +65,4 @@ impl TokenStore for NoneTokenStore {
 // two calls that hand it out.
 pub fn a_token_is_taken_only_as_often_as_stored<T: TokenStore>(store: &T)
     ensures { ATokenIsTakenOnlyAsOftenAsStored T.TokenStore.holds store.now }
-{}
-
-// The lists by which the memory cache is defined do what a store does, and keep to the limits.
-pub fn the_cache_on_lists_is_a_store()
-    ensures { TheCacheOnListsIsAStore }
 {}

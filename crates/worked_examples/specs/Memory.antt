@@ -8,7 +8,7 @@ use Rattle.token_log.specs.declared.two_generations.TwoGenerationLog.{TwoGenerat
 use Rattle.token_log.specs.Generations.{Logs}
 use Rattle.token_log.specs.Laws.{Call, Leads}
 use Rattle.token_store.specs.Store.{Bytes}
-use Rattle.token_store.specs.Cache.{Entry, stored}
+use Rattle.token_memory_cache.specs.Cache.{Entry, stored}
 
 -- an exact set of four places, by what it holds
 abbrev pub four : List ℕ → Meaning

@@ -1,18 +1,19 @@
 -- The cache on lists does what a store does.
-use Rattle.std.proofs.Common.{◌≡◌, ℕ, ◌<◌, ◌≤◌, Bool, true, false, cond, ◌&&◌, ◌||◌, nat_eq, nat_le, ◌⊎◌, List, [], ◌∷◌, ◌++◌, length, drop, Some, None, Option, sym, refl, ap, ◌∙◌, subst, inl, inr, ⊎_elim, arith}
+use Rattle.std.proofs.Common.{◌≡◌, ℕ, ◌<◌, ◌≤◌, Bool, true, false, cond, ◌&&◌, ◌||◌, if◌then◌else◌, nat_eq, nat_le, ◌⊎◌, List, [], ◌∷◌, ◌++◌, length, drop, Some, None, Option, sym, refl, ap, ap₂, ◌∙◌, subst, inl, inr, ⊎_elim, arith}
+use Rattle.std.specs.List.{list_all}
 use Rattle.std.specs.Str.{bytes_eq}
-use Rattle.std.proofs.lemmas.Bool.{false≢true, and_parts, and_from, or_parts, or_cases, or_from, or_left, or_right, not-true, not_from_false, cond-true, cond-false, cond_both, cases_Bool, leb-true, leb-false, le-leb, eqb-false}
+use Rattle.std.proofs.lemmas.Bool.{false≢true, and_parts, and_from, or_parts, or_cases, or_from, or_left, or_right, not-true, not_from_false, cond-true, cond-false, cond_both, cases_Bool, leb-true, leb-false, le-leb, lt-leb, eqb-false, ne_eqb}
 use Rattle.std.proofs.lemmas.List.{length_push, length-drop}
 use Rattle.std.proofs.lemmas.Slice.Eq.{bytes_eq-Decides}
 use Rattle.token_store.specs.Store.Stores.{inserts}
 use Rattle.token_store.specs.Store.Takes.{none, some as handing}
 use Rattle.token_store.specs.Store.{Bytes, Inserted}
-use Rattle.token_store.specs.Cache.{Entry, has, named, tokens_of, without, holding, added, stored, oldest, rest, handed_out, taken, apart, some, sound, every, fits, shorts, short, Kept, Removed, TheCacheOnListsIsAStore}
+use Rattle.token_memory_cache.specs.Cache.{Entry, has, named, tokens_of, without, holding, added, others_of, stored, oldest, rest, handed_out, taken, apart, some, sound, fits, shorts, short, Kept, Removed, TheCacheOnListsIsAStore}
 
 same_refl : (x : Bytes) → bytes_eq x x ≡ true
 same_refl x = (bytes_eq-Decides x x).1 refl
 
-same_true : (x y : Bytes) → bytes_eq x y ≡ true → x ≡ y
+pub same_true : (x y : Bytes) → bytes_eq x y ≡ true → x ≡ y
 same_true x y = (bytes_eq-Decides x y).0
 
 same_ne : (x y : Bytes) → (x ≡ y → ⊥) → bytes_eq x y ≡ false
@@ -31,24 +32,24 @@ or_assoc false b c = refl
 
 -- a test that each element passes, where one is pushed, dropped or left out
 module _ {X : Type 0} (test : X → Bool) where
-  every_push : (xs : List X) (x : X) → every test xs ≡ true → test x ≡ true → every test (xs ++ x ∷ []) ≡ true
+  every_push : (xs : List X) (x : X) → list_all test xs ≡ true → test x ≡ true → list_all test (xs ++ x ∷ []) ≡ true
   every_push [] x h t = and_from _ _ t refl
   every_push (y ∷ xs) x h t = let p = and_parts _ _ h in and_from _ _ p.0 (every_push xs x p.1 t)
 
-  every_drop : (xs : List X) → every test xs ≡ true → every test (drop 1 xs) ≡ true
+  every_drop : (xs : List X) → list_all test xs ≡ true → list_all test (drop 1 xs) ≡ true
   every_drop [] h = h
   every_drop (x ∷ xs) h = (and_parts _ _ h).1
 
-every-without : (test : Entry → Bool) (n : Bytes) (es : List Entry) → every test es ≡ true → every test (without n es) ≡ true
+every-without : (test : Entry → Bool) (n : Bytes) (es : List Entry) → list_all test es ≡ true → list_all test (without n es) ≡ true
 every-without test n [] h = h
 every-without test n (e ∷ es) h =
     let p = and_parts _ _ h in
-    cond_both (bytes_eq n e.name) (without n es) (e ∷ without n es) (λ xs. every test xs ≡ true) (λ _. every-without test n es p.1)
+    cond_both (bytes_eq n e.name) (without n es) (e ∷ without n es) (λ xs. list_all test xs ≡ true) (λ _. every-without test n es p.1)
     (λ _. and_from _ _ p.0 (every-without test n es p.1))
 
 -- what holds of no tokens and of those of each entry holds of those of a name
 tokens_by : (P : List Bytes → Type 0) (test : Entry → Bool) → P [] → ((e : Entry) → test e ≡ true → P e.tokens)
-    → (n : Bytes) (es : List Entry) → every test es ≡ true → P (tokens_of n es)
+    → (n : Bytes) (es : List Entry) → list_all test es ≡ true → P (tokens_of n es)
 tokens_by P test empty each n [] h = empty
 tokens_by P test empty each n (e ∷ es) h =
     let p = and_parts _ _ h in
@@ -138,7 +139,7 @@ named_push : (es : List Entry) (e : Entry) (m : Bytes) → named m (es ++ e ∷ 
 named_push [] e m = or_nil _
 named_push (x ∷ es) e m = ap (λ b. bytes_eq m x.name || b) (named_push es e m) ∙ or_assoc (bytes_eq m x.name) (named m es) (bytes_eq m e.name)
 
-tokens_none : (m : Bytes) (es : List Entry) → named m es ≡ false → tokens_of m es ≡ []
+pub tokens_none : (m : Bytes) (es : List Entry) → named m es ≡ false → tokens_of m es ≡ []
 tokens_none m [] h = refl
 tokens_none m (e ∷ es) h = let p = or_parts _ _ h in cond-false _ _ _ p.0 ∙ tokens_none m es p.1
 
@@ -254,7 +255,7 @@ into_new n t es fs z k m u h =
     (λ d. inl (k m u (sym (ap (has u) (tokens_push_other fs _ m d)) ∙ h)))
     (cases_Bool (bytes_eq m n))
 
-inserted : (names tokens : ℕ) (n t : Bytes) (es : List Entry) → sound es ≡ true → Inserted n t (holding es) (holding (stored names tokens n t es))
+pub inserted : (names tokens : ℕ) (n t : Bytes) (es : List Entry) → sound es ≡ true → Inserted n t (holding es) (holding (stored names tokens n t es))
 inserted names tokens n t es s =
     stored_by (λ xs. Inserted n t (holding es) (holding xs)) names tokens n t es (λ m u h. inl h) (λ _ _ _. into_named tokens n t es)
     (λ _ _ z _. into_new n t es (drop 1 es) (named-drop es n z) (λ m u. tokens_drop es m u s)) (λ _ _ z _. into_new n t es es z (λ m u h. h))
@@ -286,7 +287,7 @@ removed_by n es (t ∷ (v ∷ vs)) e a =
 
 -- the limits are kept
 module _ (names tokens : ℕ) (es : List Entry) (k : Kept names tokens es) where
-  fits_of : (n : Bytes) → length (tokens_of n es) ≤ tokens
+  pub fits_of : (n : Bytes) → length (tokens_of n es) ≤ tokens
   fits_of n = tokens_by (λ ts. length ts ≤ tokens) (λ e. nat_le (length e.tokens) tokens) (omega arith) (λ e. leb-true (length e.tokens) tokens) n es k.3
 
   shorts_of : (n : Bytes) → shorts (tokens_of n es) ≡ true
@@ -315,7 +316,7 @@ module _ (names tokens : ℕ) (es : List Entry) (k : Kept names tokens es) where
   kept_named n ts b d a o c l =
       kept_push (without n es) n ts (sound-without n es k.0) (short-without n) (fits-without n) (omega (arith, length_less n es d, k.2)) (named_without_same n es) b a o c l
 
-  kept_stored : (n t : Bytes) → length n ≤ 255 → length t ≤ 512 → Kept names tokens (stored names tokens n t es)
+  pub kept_stored : (n t : Bytes) → length n ≤ 255 → length t ≤ 512 → Kept names tokens (stored names tokens n t es)
   kept_stored n t b c =
       let one : shorts (t ∷ []) ≡ true = and_from _ _ (le-leb _ _ c) refl in
       stored_by (Kept names tokens) names tokens n t es k
@@ -325,7 +326,7 @@ module _ (names tokens : ℕ) (es : List Entry) (k : Kept names tokens es) where
       (every_drop (λ x. nat_le (length x.tokens) tokens) es k.3) (omega (arith, length-drop 1 es, k.2, l)) (named-drop es n d) b refl refl one (omega arith))
       (λ y z d l. kept_push es n (t ∷ []) k.0 k.1 k.3 l d b refl refl one (omega arith))
 
-  kept_rest : (n : Bytes) (ts : List Bytes) → length n ≤ 255 → tokens_of n es ≡ ts → Kept names tokens (rest n es ts)
+  pub kept_rest : (n : Bytes) (ts : List Bytes) → length n ≤ 255 → tokens_of n es ≡ ts → Kept names tokens (rest n es ts)
   kept_rest n [] b e = k
   kept_rest n (t ∷ []) b e = (sound-without n es k.0, short-without n, omega (arith, length_without n es, k.2), fits-without n)
   kept_rest n (t ∷ (v ∷ vs)) b e =
@@ -334,10 +335,44 @@ module _ (names tokens : ℕ) (es : List Entry) (k : Kept names tokens es) where
       let l : length (t ∷ (v ∷ vs)) ≤ tokens = rw e at (fits_of n) in
       kept_named n (v ∷ vs) b (named_some n t (v ∷ vs) es e) (and_parts _ _ a).1 refl (and_parts _ _ s).1 (omega arith)
 
-  removed : (n : Bytes) (o : Option Bytes) → handed_out n es ≡ o → Removed n o (holding es) (holding (taken n es))
+  pub removed : (n : Bytes) (o : Option Bytes) → handed_out n es ≡ o → Removed n o (holding es) (holding (taken n es))
   removed n o e = let P : Option Bytes → Type 0 = λ x. Removed n x (holding es) (holding (taken n es)) in subst P e (removed_by n es (tokens_of n es) refl (apart_of es n k.0))
 
-oldest-short : (ts : List Bytes) (t : Bytes) → oldest ts ≡ Some t → shorts ts ≡ true → length t ≤ 512
+-- a name that is there has a token
+pub some_of : (es : List Entry) (n : Bytes) → sound es ≡ true → named n es ≡ true → some (tokens_of n es) ≡ true
+some_of [] n s d = absurd (false≢true d)
+some_of (e ∷ es) n s d =
+    let p = and_parts _ _ s in
+    cond_both (bytes_eq n e.name) e.tokens (tokens_of n es) (λ xs. some xs ≡ true) (λ _. (and_parts _ _ (and_parts _ _ p.0).1).1)
+    (λ f. some_of es n p.1 (⊎_elim (λ t. absurd (false≢true (sym f ∙ t))) (λ t. t) (or_cases _ _ d)))
+
+not_zero : (n : ℕ) → 0 < n → nat_eq n 0 ≡ false
+not_zero n h = ne_eqb n 0 (λ e. omega arith)
+
+added_new : (k : ℕ) (t : Bytes) → 0 < k → added k t [] ≡ t ∷ []
+added_new k t z = ap (λ xs. xs ++ t ∷ []) (cond-false (nat_le k 0) (drop 1 []) [] (lt-leb k 0 z))
+
+pub stored_is : (names tokens : ℕ) (n t : Bytes) (es : List Entry) → 0 < names → 0 < tokens
+    → stored names tokens n t es ≡ others_of names n es ++ record { name = n; tokens = added tokens t (tokens_of n es) } ∷ []
+stored_is names tokens n t es y z =
+    let last : List Bytes → List Entry = λ ts. record { name = n; tokens = ts } ∷ [] in
+    cond-false (nat_eq names 0 || nat_eq tokens 0) _ _ (or_from _ _ (not_zero names y) (not_zero tokens z))
+    ∙ cond_both (named n es) (without n es ++ last (added tokens t (tokens_of n es))) ((if nat_le names (length es) then drop 1 es else es) ++ last (t ∷ []))
+    (λ xs. xs ≡ others_of names n es ++ last (added tokens t (tokens_of n es)))
+    (λ d. ap (λ xs. xs ++ last (added tokens t (tokens_of n es))) (sym (cond-true (named n es) (without n es) _ d)))
+    (λ d. ap₂ (λ xs ts. xs ++ last ts) (sym (cond-false (named n es) (without n es) _ d)) (sym (ap (added tokens t) (tokens_none n es d) ∙ added_new tokens t z)))
+
+pub fits_others : (names tokens : ℕ) (n : Bytes) (es : List Entry) → Kept names tokens es → fits tokens (others_of names n es) ≡ true
+fits_others names tokens n es k =
+    cond_both (named n es) (without n es) _ (λ xs. fits tokens xs ≡ true) (λ _. fits-without names tokens es k n)
+    (λ _. cond_both (nat_le names (length es)) (drop 1 es) es (λ xs. fits tokens xs ≡ true) (λ _. every_drop (λ x. nat_le (length x.tokens) tokens) es k.3) (λ _. k.3))
+
+pub length-others : (names tokens : ℕ) (n : Bytes) (es : List Entry) → Kept names tokens es → 0 < names → length (others_of names n es) < names
+length-others names tokens n es k y =
+    cond_both (named n es) (without n es) _ (λ xs. length xs < names) (λ d. omega (arith, length_less n es d, k.2))
+    (λ _. cond_both (nat_le names (length es)) (drop 1 es) es (λ xs. length xs < names) (λ _. omega (arith, length-drop 1 es, k.2)) (λ l. leb-false _ _ l))
+
+pub oldest-short : (ts : List Bytes) (t : Bytes) → oldest ts ≡ Some t → shorts ts ≡ true → length t ≤ 512
 oldest-short [] t e s = let z : ◌≡◌ {A = ℕ} 0 1 = cc in absurd (omega arith)
 oldest-short (x ∷ ts) t e s =
     let d : x ≡ t = cc in

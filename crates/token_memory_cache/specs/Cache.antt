@@ -1,7 +1,11 @@
 -- The memory cache, on lists: names with their tokens. The name least recently used stands first, and of each name's
 -- tokens the oldest.
-use Rattle.std.specs.Prelude.{◌≡◌, ℕ, ◌≤◌, Bool, true, false, not, ◌&&◌, ◌||◌, nat_le, List, [], ◌∷◌, ◌++◌, length, drop, Some, None, Ok, Option, ◌==◌, if◌then◌else◌}
+use Rattle.std.specs.Prelude.{◌≡◌, ℕ, ◌*◌, ◌^◌, ◌≤◌, Bool, true, false, not, ◌&&◌, ◌||◌, nat_le, nat_lt, List, [], ◌∷◌, ◌++◌, length, drop, Some, None, Ok, Err, Option, Result, ◌==◌, if◌then◌else◌}
+use Rattle.std.specs.List.{list_all, list_any}
+use Rattle.std.specs.Option.{option_map}
 use Rattle.std.specs.Str.{bytes_eq}
+use Rattle.answers.specs.declared.Refusal.{Refusal}
+use Rattle.answers.specs.declared.Refusal.TheVariants.{SmallBuffer, LongEntry}
 use Rattle.answers.specs.Buffers.{fronted}
 use Rattle.token_store.specs.Store.{Bytes, Holds, Alike, Stores, Takes, Handed}
 
@@ -10,12 +14,10 @@ pub record Entry : Type 0 where
   pub tokens : List Bytes
 
 abbrev pub has : Bytes → List Bytes → Bool
-has t [] = false
-has t (u ∷ us) = bytes_eq t u || has t us
+has t = list_any (bytes_eq t)
 
 abbrev pub named : Bytes → List Entry → Bool
-named n [] = false
-named n (e ∷ es) = bytes_eq n e.name || named n es
+named n = list_any (λ e. bytes_eq n e.name)
 
 -- the tokens of a name, none where it is not there; the other names
 abbrev pub tokens_of : Bytes → List Entry → List Bytes
@@ -33,6 +35,11 @@ holding es n t = has t (tokens_of n es)
 -- a token stored to a name of at most k: a duplicate is discarded, and a full name drops its oldest
 abbrev pub added : ℕ → Bytes → List Bytes → List Bytes
 added k t ts = if has t ts then ts else (if nat_le k (length ts) then drop 1 ts else ts) ++ t ∷ []
+
+-- the entries without a name, or, where it is new and they are as many as the limit of names, without the one least
+-- recently used
+abbrev pub others_of : ℕ → Bytes → List Entry → List Entry
+others_of names n es = if named n es then without n es else if nat_le names (length es) then drop 1 es else es
 
 -- an insert, at limits of names and of tokens a name: the name is then used last; a new name past the limit pushes out
 -- the one least recently used; either limit zero, nothing happens
@@ -71,24 +78,55 @@ abbrev pub sound : List Entry → Bool
 sound [] = true
 sound (e ∷ es) = (not (named e.name es) && (apart e.tokens && some e.tokens)) && sound es
 
--- a test that each element passes
-abbrev pub every : {X : Type 0} → (X → Bool) → List X → Bool
-every test [] = true
-every test (x ∷ xs) = test x && every test xs
-
 -- within the limit of tokens; names of at most 255 bytes, and tokens of at most 512
 abbrev pub fits : ℕ → List Entry → Bool
-fits tokens = every (λ e. nat_le (length e.tokens) tokens)
+fits tokens = list_all (λ e. nat_le (length e.tokens) tokens)
 
 abbrev pub shorts : List Bytes → Bool
-shorts = every (λ t. nat_le (length t) 512)
+shorts = list_all (λ t. nat_le (length t) 512)
 
 abbrev pub short : List Entry → Bool
-short = every (λ e. nat_le (length e.name) 255 && shorts e.tokens)
+short = list_all (λ e. nat_le (length e.name) 255 && shorts e.tokens)
 
 -- what a cache keeps to at its limits
 abbrev pub Kept : ℕ → ℕ → List Entry → Type 0
 Kept names tokens es = (sound es ≡ true) × (short es ≡ true) × (length es ≤ names) × (fits tokens es ≡ true)
+
+-- a cache: how many names and how many tokens a name it may hold, and what it holds
+pub record Cache : Type 0 where
+  pub names : ℕ
+  pub tokens : ℕ
+  pub entries : List Entry
+
+-- whether a cache may be made with these limits, in so many records for names and for tokens
+abbrev pub allowed : ℕ → ℕ → ℕ → ℕ → Bool
+allowed names tokens name_records token_records =
+    (nat_le names 1024 && nat_le tokens 16) && (nat_le names name_records && nat_le (names * tokens) token_records)
+    && (nat_lt name_records (2 ^ 32) && nat_lt token_records (2 ^ 32))
+
+-- an insert: its answer, and what it leaves
+abbrev pub long_entry : Bytes → Bytes → Bool
+long_entry n t = nat_lt 255 (length n) || nat_lt 512 (length t)
+
+abbrev pub insert_answer : Bytes → Bytes → Result (Unit {0}) Refusal
+insert_answer n t = if long_entry n t then Err LongEntry else Ok tt
+
+abbrev pub inserted : Bytes → Bytes → Cache → Cache
+inserted n t c = if long_entry n t then c else record c { entries = stored c.names c.tokens n t c.entries }
+
+-- a take: its answer, what it leaves, and the buffer
+abbrev pub take_answer : Bytes → List ℕ → Cache → Result (Option ℕ) Refusal
+take_answer n out c = if nat_lt (length out) 512 then Err SmallBuffer else if nat_lt 255 (length n) then Err LongEntry else Ok (option_map length (handed_out n c.entries))
+
+abbrev pub put_in_front : Option Bytes → List ℕ → List ℕ
+put_in_front None out = out
+put_in_front (Some t) out = fronted t out
+
+abbrev pub taken_into : Bytes → List ℕ → Cache → List ℕ
+taken_into n out c = if nat_lt (length out) 512 || nat_lt 255 (length n) then out else put_in_front (handed_out n c.entries) out
+
+abbrev pub taken_from : Bytes → List ℕ → Cache → Cache
+taken_from n out c = if nat_lt (length out) 512 || nat_lt 255 (length n) then c else record c { entries = taken n c.entries }
 
 -- what a take does to a store, by what it hands out
 abbrev pub Removed : Bytes → Option Bytes → Holds → Holds → Type 0

@@ -1,0 +1,3 @@
+pub mod Cache
+pub mod Texts
+pub mod Shelves

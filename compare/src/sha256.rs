@@ -50,17 +50,10 @@ pub(crate) fn sha256(message: &[u8]) -> [u8; 32] {
     }
     let mut padded = message.to_vec();
     padded.push(0x80);
-    padded.resize(
-        padded.len().next_multiple_of(64)
-            + if padded.len() % 64 > 56 || padded.len() % 64 == 0 {
-                64
-            } else {
-                0
-            },
-        0,
-    );
-    let end = padded.len() - 8;
-    padded[end..].copy_from_slice(&(8 * message.len() as u64).to_be_bytes());
+    while padded.len() % 64 != 56 {
+        padded.push(0);
+    }
+    padded.extend((8 * message.len() as u64).to_be_bytes());
     for block in padded.chunks_exact(64) {
         compress(&mut state, block, &constants);
     }

@@ -1,7 +1,7 @@
 #![tactic(auto)]
 // Bytes in hex, both ways. Only small letters are digits: the toolchain's own library takes capitals too.
-ghost use Rattle.std.specs.Prelude.{◌≡◌, IfOk};
-ghost use Rattle.hex_text.specs.Digits.{digit_of, paired, unhex, read};
+ghost use Rattle.std.specs.Prelude.{◌≡◌, ◌<◌, Some, IfOk};
+ghost use Rattle.hex_text.specs.Digits.{hex, glyph_of, digit_of, paired, unhex, read};
 
 use std::alloc::{AllocError, Global};
 use std::fmt;
@@ -11,12 +11,22 @@ use std::fmt;
 pub struct Hex<'a>(pub &'a [u8]);
 
 impl fmt::Display for Hex<'_> {
+    ghost output = { λ h. Some (hex h.0.now) };
+
     fn fmt<W: fmt::Write>(&self, f: &mut fmt::Formatter<W>) -> fmt::Result {
         for byte in self.0 {
-            write!(f, "{byte:02x}")?;
+            f.write_char(glyph(byte / 16))?;
+            f.write_char(glyph(byte % 16))?;
         }
         Ok(())
     }
+}
+
+fn glyph(n: u8) -> char
+    requires { n < 16 }
+    ensures { result ≡ glyph_of n }
+{
+    char::from(if n <= 9 { b'0' + n } else { b'a' + n - 10 })
 }
 
 fn digit(c: u8) -> Option<u8>
@@ -53,3 +63,8 @@ pub fn read_hex(heap: Global, text: &[u8]) -> Result<Option<Vec<u8>>, AllocError
     }
     Ok(None)
 }
+
+// What is shown of bytes reads as these bytes.
+pub fn reading_undoes_showing(bytes: &[u8])
+    ensures { unhex (hex bytes.now) ≡ Some bytes.now }
+{}

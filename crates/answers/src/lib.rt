@@ -2,6 +2,7 @@
 
 ghost use Rattle.std.specs.Prelude.{◌≡◌};
 ghost use Rattle.answers.specs.Numbers.{refusal_number, cause_number, NumbersTell};
+ghost use Rattle.answers.specs.Sameness.{TellsSameness};
 ghost use Rattle.answers.specs.declared.Cause.TheVariants.{Undecodable as is_undecodable};
 
 // Why a call was refused, by the number it is known by. A refused call writes nothing and alters nothing.
@@ -114,6 +115,13 @@ impl Cause {
         }
     }
 }
+
+// Two refusals, causes or faults are equal just if they are the same.
+pub fn equal_answers_are_the_same()
+    ensures refusals { TellsSameness (⟦<Refusal as PartialEq>⟧.eq) }
+    ensures causes { TellsSameness (⟦<Cause as PartialEq>⟧.eq) }
+    ensures faults { TellsSameness (⟦<Fault as PartialEq>⟧.eq) }
+{}
 
 // A number tells the refusal or the cause it stands for, and no number stands for one of each.
 pub fn numbers_tell_answers()

@@ -26,7 +26,7 @@ pub fn bloom_words(budget: u32) -> usize
 
 // Memory for the words of a Bloom filter under a byte budget.
 pub fn allocate_words(heap: Global, budget: u32) -> Result<Vec<u64>, AllocError>
-    ensures { IfOk result (λ v. words_for budget ≤ vec_capacity v) }
+    ensures { IfOk result (λ v. vec_capacity v ≡ words_for budget) }
 {
     Vec::with_capacity(heap, bloom_words(budget))
 }

@@ -42,7 +42,8 @@ pub struct ExactSet {
 impl Places {
     // Memory for a set of so many.
     pub fn allocate(heap: Global, count: u32) -> Result<Places, AllocError>
-        ensures { IfOk result (λ p. count ≤ room_of p) }
+        ensures enough { IfOk result (λ p. room_of p ≡ count) }
+        ensures sizes { IfOk result (λ p. (vec_capacity p.held ≡ count) × (vec_capacity p.links ≡ count) × (vec_capacity p.heads ≡ count * 4)) }
     {
         let held = Vec::with_capacity(heap, count as usize)?;
         let links = Vec::with_capacity(heap, count as usize)?;

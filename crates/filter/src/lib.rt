@@ -11,7 +11,7 @@ mod turning;
 use answers::Cause;
 pub use exact::{ExactSet, Places};
 pub use memory::filled;
-pub use turning::{Form, TurningFilter};
+pub use turning::{Form, TurningFilter, equal_forms_are_the_same};
 
 // A memory of fingerprints, the low halves of the nonces of used tokens.
 pub trait Filter {

@@ -1,3 +1,4 @@
+ghost use Rattle.answers.specs.Sameness.{TellsSameness};
 ghost use Rattle.std.specs.Prelude.{◌≡◌, ℕ, true, MatchOption};
 ghost use Rattle.filter.specs.Filter.{Records, Emptied};
 ghost use Rattle.filter.specs.Lists.{member};
@@ -112,3 +113,8 @@ impl<S: ListingFilter, B: Filter> ListingFilter for TurningFilter<S, B> {
         self.listing().is_some_and(|s| s.holds(f))
     }
 }
+
+// Two forms are equal just if they are the same.
+pub fn equal_forms_are_the_same()
+    ensures { TellsSameness (⟦<Form as PartialEq>⟧.eq) }
+{}

@@ -18,7 +18,7 @@ pub use laws::{
     every_issued_token_in_date_is_honoured, no_token_is_honoured_twice,
 };
 use sealing::{Nonce, SealingScheme, Token, decode_token, encode_token};
-pub use slip::{Accepted, AddressValidation, Slip};
+pub use slip::{Accepted, AddressValidation, Slip, equal_validations_are_the_same};
 use token_log::{Lifetime, TokenLog};
 use verdict::Weighed;
 pub use verdict::{Arrived, Verdict};

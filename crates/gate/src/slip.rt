@@ -1,3 +1,4 @@
+ghost use Rattle.answers.specs.Sameness.{TellsSameness};
 ghost use Rattle.std.specs.Prelude.{◌≡◌};
 ghost use Rattle.gate.specs.Calls.{is_validated};
 
@@ -67,3 +68,8 @@ impl Slip {
         } = self;
     }
 }
+
+// Two ways of validation are equal just if they are the same.
+pub fn equal_validations_are_the_same()
+    ensures { TellsSameness (⟦<AddressValidation as PartialEq>⟧.eq) }
+{}

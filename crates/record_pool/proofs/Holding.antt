@@ -43,9 +43,9 @@ pub record Holds {X : Type 0} (before after : Pool X) (c : Chain) (others : List
   pub gives : items after c ≡ xs
   pub rest : map (items after) others ≡ map (items before) others
 
-pub holds : {X : Type 0} (before after : Pool X) (b c : Chain) (others : List Chain) (ps : List ℕ) (ys : List (Option X)) (xs : List X) → Divided before (b ∷ others)
-    → Becomes before after c others ps ys → ys ≡ map (λ x. Some x) xs → Holds before after c others xs
-holds before after b c others ps ys xs d h e = record {
+pub holds : {X : Type 0} (before after : Pool X) (b c : Chain) (others : List Chain) (ps : List ℕ) (ys : List (Option X)) (fs : List ℕ) (xs : List X) → Divided before (b ∷ others)
+    → Becomes before after c others ps ys fs → ys ≡ map (λ x. Some x) xs → Holds before after c others xs
+holds before after b c others ps ys fs xs d h e = record {
   divided = h.divided;
   size = h.size;
   gives = some_same (items after c) xs (given after c others h.divided ∙ h.holds ∙ e);

@@ -1,5 +1,5 @@
 -- What each operation makes of the chains, over the records before and after each of its steps.
-use Rattle.std.proofs.Common.{◌≡◌, ℕ, zero, suc, ◌+◌, ◌^◌, ◌<◌, ◌≤◌, nat_lt, ◌≢◌, List, [], ◌∷◌, ◌++◌, map, length, slice_index, slice_index_or, take, drop, set, is_some, Some, None, Option, sym, refl, ap, ◌∙◌, subst, ⊎_elim, arith, length-set, get_or-set_other, get_or-set_same}
+use Rattle.std.proofs.Common.{◌≡◌, ℕ, zero, suc, ◌+◌, ◌^◌, ◌<◌, ◌≤◌, nat_lt, ◌≢◌, List, [], ◌∷◌, ◌++◌, map, length, slice_index, slice_index_or, take, drop, set, is_some, Some, None, Option, sym, refl, ap, ap₂, ◌∙◌, subst, ⊎_elim, arith, length-set, get_or-set_other, get_or-set_same}
 use Rattle.std.specs.List.{flat_map}
 use Rattle.std.specs.Prelude.{IfSome}
 use Rattle.std.proofs.lemmas.Bool.{cases_lt, lt-ltb, le-ltb, ltb-true, ltb-false}
@@ -14,12 +14,13 @@ use Rattle.record_pool.proofs.Runs.{hit_same, times-++, follow_more, length-walk
 use Rattle.record_pool.proofs.Sharing.{met_at, in_range, apart, first_once, bring, send, with_empty, carried}
 
 -- what an operation has made of the free chain and of one other
-pub record Outcome {X : Type 0} (rs rs' : List (Record X)) (free chain : Chain) (others : List Chain) (ps : List ℕ) (xs : List (Option X)) : Type 0 where
+pub record Outcome {X : Type 0} (rs rs' : List (Record X)) (free chain : Chain) (others : List Chain) (ps : List ℕ) (xs : List (Option X)) (fs : List ℕ) : Type 0 where
   pub size : length rs' < 2 ^ 32
   pub stays : length rs' ≡ length rs
   pub shared : Shared (length rs') (links rs') (free ∷ chain ∷ others)
   pub places : along (links rs') chain ≡ ps
   pub held : map (item_at rs') (along (links rs') chain) ≡ xs
+  pub frees : along (links rs') free ≡ fs
   pub kept_places : map (along (links rs')) others ≡ map (along (links rs)) others
   pub kept_held : map (λ (c : Chain). map (item_at rs') (along (links rs') c)) others ≡ map (λ (c : Chain). map (item_at rs) (along (links rs) c)) others
 
@@ -104,7 +105,7 @@ pub taken : {X : Type 0} (rs rs1 rs2 : List (Record X)) (free rest one : Chain) 
     → length rs < 2 ^ 32 → 0 < free.count → Shared (length rs) (links rs) (free ∷ others)
     → slots rs1 ≡ slots rs → Detached (length rs) (links rs) (links rs1) free 0 rest one others
     → links rs2 ≡ links rs1 → slots rs2 ≡ some_at (slots rs1) free.first x
-    → Outcome rs rs2 rest one others (free.first ∷ []) (Some x ∷ [])
+    → Outcome rs rs2 rest one others (free.first ∷ []) (Some x ∷ []) (drop 1 (along (links rs) free))
 taken {X = X} rs rs1 rs2 free rest one others x small some sh s1 det l2 s2 =
     let lf : length (along (links rs) free) ≡ free.count = length-walk free.count (links rs) free.first in
     let fi : slice_index (along (links rs) free) 0 ≡ free.first = get_d_walk free.count 0 (links rs) free.first some in
@@ -123,6 +124,7 @@ taken {X = X} rs rs1 rs2 free rest one others x small some sh s1 det l2 s2 =
       shared = carried (length rs) (length rs2) (links rs1) (links rs2) (rest ∷ one ∷ others) n2 l2 det.shared;
       places = ep;
       held = ap (map (item_at rs2)) ep ∙ ap (λ (v : Option X). v ∷ []) here;
+      frees = ap (λ (nx : List ℕ). along nx rest) l2 ∙ det.rests;
       kept_places = ko;
       kept_held = held_kept (item_at rs2) (item_at rs) (links rs) (links rs2) others ko (λ p m. read p ∙ some_other (slots rs) free.first x p (unmet free.first p (flat_map (along (links rs)) others) zo m));
     }
@@ -131,6 +133,7 @@ taken {X = X} rs rs1 rs2 free rest one others x small some sh s1 det l2 s2 =
 attached : {X : Type 0} (rs rs1 : List (Record X)) (free front back both : Chain) (others : List Chain)
     → length rs < 2 ^ 32 → slots rs1 ≡ slots rs → Joined (length rs) (links rs) (links rs1) front back both (free ∷ others)
     → Outcome rs rs1 free both others (along (links rs) front ++ along (links rs) back) (map (item_at rs) (along (links rs) front) ++ map (item_at rs) (along (links rs) back))
+    (along (links rs) free)
 attached rs rs1 free front back both others small s1 j =
     let n1 : length rs1 ≡ length rs = same_length rs rs1 s1 in
     let ko : map (along (links rs1)) others ≡ map (along (links rs)) others = ap (drop 1) j.kept in
@@ -139,13 +142,14 @@ attached rs rs1 free front back both others small s1 j =
       stays = n1;
       shared = carried (length rs) (length rs1) (links rs1) (links rs1) (free ∷ both ∷ others) n1 refl (bring (length rs) (links rs1) (both ∷ []) free others j.shared);
       places = j.boths;
+      frees = ap (λ (l : List (List ℕ)). slice_index_or l 0 []) j.kept;
       held = ap (map (item_at rs1)) j.boths ∙ agree (item_at rs1) (item_at rs) (along (links rs) front ++ along (links rs) back) (λ p m. read_same rs rs1 s1 p) ∙ map-append (item_at rs) (along (links rs) front) (along (links rs) back);
       kept_places = ko;
       kept_held = held_kept (item_at rs1) (item_at rs) (links rs) (links rs1) others ko (λ p m. read_same rs rs1 s1 p);
     }
 
 -- a chain taken, and joined to another at one of its ends
-module _ {X : Type 0} (rs rs1 rs2 : List (Record X)) (free chain one both : Chain) (others : List Chain) (ps : List ℕ) (xs : List (Option X)) (o : Outcome rs rs1 free one (chain ∷ others) ps xs)
+module _ {X : Type 0} (rs rs1 rs2 : List (Record X)) (free chain one both : Chain) (others : List Chain) (ps : List ℕ) (xs : List (Option X)) (fs : List ℕ) (o : Outcome rs rs1 free one (chain ∷ others) ps xs fs)
     (s2 : slots rs2 ≡ slots rs1) where
   chain_places : along (links rs1) chain ≡ along (links rs) chain
   chain_places = ap (λ (l : List (List ℕ)). slice_index_or l 0 []) o.kept_places
@@ -154,13 +158,14 @@ module _ {X : Type 0} (rs rs1 rs2 : List (Record X)) (free chain one both : Chai
   chain_held = ap (λ (l : List (List (Option X))). slice_index_or l 0 []) o.kept_held
 
   pub pushed_back : (length rs1 < 2 ^ 32 → Shared (length rs1) (links rs1) (chain ∷ one ∷ free ∷ others) → Joined (length rs1) (links rs1) (links rs2) chain one both (free ∷ others))
-      → Outcome rs rs2 free both others (along (links rs) chain ++ ps) (map (item_at rs) (along (links rs) chain) ++ xs)
+      → Outcome rs rs2 free both others (along (links rs) chain ++ ps) (map (item_at rs) (along (links rs) chain) ++ xs) fs
   pushed_back joins =
       let sh = bring (length rs1) (links rs1) (one ∷ free ∷ []) chain others (bring (length rs1) (links rs1) (free ∷ []) one (chain ∷ others) o.shared) in
       let a = attached rs1 rs2 free chain one both others o.size s2 (joins o.size sh) in
       record {
         size = a.size;
         stays = a.stays ∙ o.stays;
+        frees = a.frees ∙ o.frees;
         shared = a.shared;
         places = a.places ∙ ap (λ (l : List ℕ). l ++ along (links rs1) one) chain_places ∙ ap (λ (l : List ℕ). along (links rs) chain ++ l) o.places;
         held = a.held ∙ ap (λ (l : List (Option X)). l ++ map (item_at rs1) (along (links rs1) one)) chain_held ∙ ap (λ (l : List (Option X)). map (item_at rs) (along (links rs) chain) ++ l) o.held;
@@ -169,12 +174,13 @@ module _ {X : Type 0} (rs rs1 rs2 : List (Record X)) (free chain one both : Chai
       }
 
   pub pushed_front : (length rs1 < 2 ^ 32 → Shared (length rs1) (links rs1) (one ∷ chain ∷ free ∷ others) → Joined (length rs1) (links rs1) (links rs2) one chain both (free ∷ others))
-      → Outcome rs rs2 free both others (ps ++ along (links rs) chain) (xs ++ map (item_at rs) (along (links rs) chain))
+      → Outcome rs rs2 free both others (ps ++ along (links rs) chain) (xs ++ map (item_at rs) (along (links rs) chain)) fs
   pushed_front joins =
       let a = attached rs1 rs2 free one chain both others o.size s2 (joins o.size (send (length rs1) (links rs1) (one ∷ chain ∷ []) free others o.shared)) in
       record {
         size = a.size;
         stays = a.stays ∙ o.stays;
+        frees = a.frees ∙ o.frees;
         shared = a.shared;
         places = a.places ∙ ap (λ (l : List ℕ). l ++ along (links rs1) chain) o.places ∙ ap (λ (l : List ℕ). ps ++ l) chain_places;
         held = a.held ∙ ap (λ (l : List (Option X)). l ++ map (item_at rs1) (along (links rs1) chain)) o.held ∙ ap (λ (l : List (Option X)). xs ++ l) chain_held;
@@ -188,6 +194,7 @@ pub removed : {X : Type 0} (rs rs1 rs2 : List (Record X)) (free chain rest one b
     → slots rs1 ≡ slots rs → Detached (length rs) (links rs) (links rs1) chain k rest one (free ∷ others)
     → slots rs2 ≡ slots rs1 → (length rs1 < 2 ^ 32 → Shared (length rs1) (links rs1) (one ∷ free ∷ rest ∷ others) → Joined (length rs1) (links rs1) (links rs2) one free both (rest ∷ others))
     → Outcome rs rs2 both rest others (without k (along (links rs) chain)) (without k (map (item_at rs) (along (links rs) chain)))
+    (slice_index (along (links rs) chain) k ∷ along (links rs) free)
 removed {X = X} rs rs1 rs2 free chain rest one both others k small within s1 det s2 joins =
     let n1 : length rs1 ≡ length rs = same_length rs rs1 s1 in
     let n2 : length rs2 ≡ length rs1 = same_length rs1 rs2 s2 in
@@ -200,6 +207,7 @@ removed {X = X} rs rs1 rs2 free chain rest one both others k small within s1 det
     record {
       size = subst (λ (m : ℕ). m < 2 ^ 32) (sym (n2 ∙ n1)) small;
       stays = n2 ∙ n1;
+      frees = j.boths ∙ ap₂ (λ (a b : List ℕ). a ++ b) det.ones (ap (λ (l : List (List ℕ)). slice_index_or l 0 []) det.kept);
       shared = carried (length rs1) (length rs2) (links rs2) (links rs2) (both ∷ rest ∷ others) n2 refl j.shared;
       places = ep;
       held = ap (map (item_at rs2)) ep ∙ agree (item_at rs2) (item_at rs) (without k (along (links rs) chain)) (λ p m. read p) ∙ map-without (item_at rs) k (along (links rs) chain);
@@ -212,7 +220,7 @@ pub moved_back : {X : Type 0} (rs rs1 rs2 : List (Record X)) (free chain rest on
     → length rs < 2 ^ 32 → k < chain.count
     → slots rs1 ≡ slots rs → Detached (length rs) (links rs) (links rs1) chain k rest one (free ∷ others)
     → slots rs2 ≡ slots rs1 → (length rs1 < 2 ^ 32 → Shared (length rs1) (links rs1) (rest ∷ one ∷ free ∷ others) → Joined (length rs1) (links rs1) (links rs2) rest one both (free ∷ others))
-    → Outcome rs rs2 free both others (to_back k (along (links rs) chain)) (to_back k (map (item_at rs) (along (links rs) chain)))
+    → Outcome rs rs2 free both others (to_back k (along (links rs) chain)) (to_back k (map (item_at rs) (along (links rs) chain))) (along (links rs) free)
 moved_back rs rs1 rs2 free chain rest one both others k small within s1 det s2 joins =
     let n1 : length rs1 ≡ length rs = same_length rs rs1 s1 in
     let n2 : length rs2 ≡ length rs1 = same_length rs1 rs2 s2 in
@@ -226,6 +234,7 @@ moved_back rs rs1 rs2 free chain rest one both others k small within s1 det s2 j
     record {
       size = subst (λ (m : ℕ). m < 2 ^ 32) (sym (n2 ∙ n1)) small;
       stays = n2 ∙ n1;
+      frees = ap (λ (l : List (List ℕ)). slice_index_or l 0 []) j.kept ∙ ap (λ (l : List (List ℕ)). slice_index_or l 0 []) det.kept;
       shared = carried (length rs1) (length rs2) (links rs2) (links rs2) (free ∷ both ∷ others) n2 refl (bring (length rs1) (links rs2) (both ∷ []) free others j.shared);
       places = ep;
       held = ap (map (item_at rs2)) ep ∙ agree (item_at rs2) (item_at rs) (to_back k (along (links rs) chain)) (λ p m. read p) ∙ map_to_back (item_at rs) k (along (links rs) chain);
@@ -236,7 +245,7 @@ moved_back rs rs1 rs2 free chain rest one both others k small within s1 det s2 j
 -- a whole chain freed
 pub released : {X : Type 0} (rs rs1 : List (Record X)) (both : Chain) (free chain : Chain) (others : List Chain)
     → length rs < 2 ^ 32 → slots rs1 ≡ slots rs → Joined (length rs) (links rs) (links rs1) chain free both others
-    → Outcome rs rs1 both empty_chain others [] []
+    → Outcome rs rs1 both empty_chain others [] [] (along (links rs) chain ++ along (links rs) free)
 released rs rs1 both free chain others small s1 j =
     let n1 : length rs1 ≡ length rs = same_length rs rs1 s1 in
     record {
@@ -245,6 +254,7 @@ released rs rs1 both free chain others small s1 j =
       shared = with_empty (length rs1) (links rs1) both others (carried (length rs) (length rs1) (links rs1) (links rs1) (both ∷ others) n1 refl j.shared);
       places = refl;
       held = refl;
+      frees = j.boths;
       kept_places = j.kept;
       kept_held = held_kept (item_at rs1) (item_at rs) (links rs) (links rs1) others j.kept (λ p m. read_same rs rs1 s1 p);
     }
@@ -401,7 +411,7 @@ set-held {Y = Y} f g (x ∷ xs) (suc k) p y once e here there =
 pub written : {X : Type 0} (rs rs' : List (Record X)) (free chain : Chain) (others : List Chain) (k p : ℕ) (x : X)
     → length rs < 2 ^ 32 → Shared (length rs) (links rs) (free ∷ chain ∷ others) → nth (along (links rs) chain) k ≡ Some p
     → links rs' ≡ links rs → slots rs' ≡ some_at (slots rs) p x
-    → Outcome rs rs' free chain others (along (links rs) chain) (set (map (item_at rs) (along (links rs) chain)) k (Some x))
+    → Outcome rs rs' free chain others (along (links rs) chain) (set (map (item_at rs) (along (links rs) chain)) k (Some x)) (along (links rs) free)
 written {X = X} rs rs' free chain others k p x small sh e l s =
     let sh' : Shared (length rs) (links rs) (chain ∷ free ∷ others) = bring (length rs) (links rs) (free ∷ []) chain others sh in
     let m : 1 ≤ times p (along (links rs) chain) = met_nth (along (links rs) chain) k p e in
@@ -419,6 +429,7 @@ written {X = X} rs rs' free chain others k p x small sh e l s =
       stays = n;
       shared = carried (length rs) (length rs') (links rs) (links rs') (free ∷ chain ∷ others) n l sh;
       places = ep;
+      frees = ap (λ (nx : List ℕ). along nx free) l;
       held = ap (map (item_at rs')) ep
           ∙ set-held (item_at rs') (item_at rs) (along (links rs) chain) k p (Some x) (first_once (length rs) (links rs) chain (free ∷ others) sh') e
           (ap (λ (ys : List (Option X)). slice_index_or ys p None) s ∙ some_here (slots rs) p x r.0 (omega arith)) other;
@@ -428,13 +439,14 @@ written {X = X} rs rs' free chain others k p x small sh e l s =
 
 -- ---- as a pool's
 
-pub becomes : {X : Type 0} (before after : Pool X) (c : Chain) (others : List Chain) (ps : List ℕ) (xs : List (Option X))
-    → Outcome before.records.now after.records.now after.free c others ps xs → Becomes before after c others ps xs
-becomes before after c others ps xs o = record {
+pub becomes : {X : Type 0} (before after : Pool X) (c : Chain) (others : List Chain) (ps : List ℕ) (xs : List (Option X)) (fs : List ℕ)
+    → Outcome before.records.now after.records.now after.free c others ps xs fs → Becomes before after c others ps xs fs
+becomes before after c others ps xs fs o = record {
   divided = record { size = o.size; shared = o.shared };
   size = o.stays;
   stands = o.places;
   holds = o.held;
+  free = o.frees;
   kept = record { stand = o.kept_places; hold = o.kept_held };
 }
 
@@ -443,14 +455,15 @@ pub leading : {X : Type 0} (pool : Pool X) (c : Chain) (others : List Chain) →
     → Shared (length pool.records.now) (links pool.records.now) (c ∷ pool.free ∷ others)
 leading pool c others d = bring (length pool.records.now) (links pool.records.now) (pool.free ∷ []) c others d.shared
 
-pub outcome : {X : Type 0} (before after : Pool X) (c : Chain) (others : List Chain) (ps : List ℕ) (xs : List (Option X))
-    → Becomes before after c others ps xs → Outcome before.records.now after.records.now after.free c others ps xs
-outcome before after c others ps xs b = record {
+pub outcome : {X : Type 0} (before after : Pool X) (c : Chain) (others : List Chain) (ps : List ℕ) (xs : List (Option X)) (fs : List ℕ)
+    → Becomes before after c others ps xs fs → Outcome before.records.now after.records.now after.free c others ps xs fs
+outcome before after c others ps xs fs b = record {
   size = b.divided.size;
   stays = b.size;
   shared = b.divided.shared;
   places = b.stands;
   held = b.holds;
+  frees = b.free;
   kept_places = b.kept.stand;
   kept_held = b.kept.hold;
 }

@@ -66,12 +66,14 @@ pub record Kept {X : Type 0} (before after : Pool X) (chains : List Chain) : Typ
   pub stand : map (places after) chains ≡ map (places before) chains
   pub hold : map (held after) chains ≡ map (held before) chains
 
--- a chain has become c, with these places and items, the others are as they were, and no record came or went
-pub record Becomes {X : Type 0} (before after : Pool X) (c : Chain) (others : List Chain) (ps : List ℕ) (xs : List (Option X)) : Type 0 where
+-- a chain has become c, with these places and items, the free chain has these places, the others are as they were, and no
+-- record came or went
+pub record Becomes {X : Type 0} (before after : Pool X) (c : Chain) (others : List Chain) (ps : List ℕ) (xs : List (Option X)) (fs : List ℕ) : Type 0 where
   pub divided : Divided after (c ∷ others)
   pub size : length after.records.now ≡ length before.records.now
   pub stands : places after c ≡ ps
   pub holds : held after c ≡ xs
+  pub free : places after after.free ≡ fs
   pub kept : Kept before after others
 
 -- nothing is altered

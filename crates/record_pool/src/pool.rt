@@ -88,7 +88,7 @@ impl<'a, T: Copy> Pool<'a, T> {
         ensures free { self.new.free ≡ self.old.free }
         ensures links { links self.new.records.now ≡ links self.old.records.now }
         ensures slots { slots self.new.records.now ≡ some_at (slots self.old.records.now) place item }
-        ensures chains { (chain : Chain) (others : List Chain) (k : ℕ) → Divided self.old (chain ∷ others) → nth (places self.old chain) k ≡ is_item place → Becomes self.old self.new chain others (places self.old chain) (slice_set (held self.old chain) k (is_item item)) }
+        ensures chains { (chain : Chain) (others : List Chain) (k : ℕ) → Divided self.old (chain ∷ others) → nth (places self.old chain) k ≡ is_item place → Becomes self.old self.new chain others (places self.old chain) (slice_set (held self.old chain) k (is_item item)) (places self.old self.old.free) }
     {
         put(self.records, place, item)
     }
@@ -96,7 +96,7 @@ impl<'a, T: Copy> Pool<'a, T> {
     // Takes the first free record for an item, as a chain of its own.
     fn take(&mut self, item: T) -> Option<Chain>
         ensures answer { MatchOption result ((self.old.free.count ≡ 0) × Same self.old self.new) (λ one. (0 < self.old.free.count) × (one.first ≡ self.old.free.first)) }
-        ensures chains { IfSome result (λ one. (others : List Chain) → Divided self.old others → Becomes self.old self.new one others (self.old.free.first ∷ []) (is_item item ∷ [])) }
+        ensures chains { IfSome result (λ one. (others : List Chain) → Divided self.old others → Becomes self.old self.new one others (self.old.free.first ∷ []) (is_item item ∷ []) (drop 1 (places self.old self.old.free))) }
     {
         if self.free.count == 0 {
             return None;
@@ -111,7 +111,7 @@ impl<'a, T: Copy> Pool<'a, T> {
     pub fn push_back(&mut self, chain: &mut Chain, item: T) -> Option<u32>
         ensures answer { result ≡ (if nat_eq self.old.free.count 0 then is_none else is_item self.old.free.first) }
         ensures refused { self.old.free.count ≡ 0 → Same self.old self.new × (chain.new ≡ chain.old) }
-        ensures chains { (others : List Chain) → 0 < self.old.free.count → Divided self.old (chain.old ∷ others) → Becomes self.old self.new chain.new others (places self.old chain.old ++ self.old.free.first ∷ []) (held self.old chain.old ++ is_item item ∷ []) }
+        ensures chains { (others : List Chain) → 0 < self.old.free.count → Divided self.old (chain.old ∷ others) → Becomes self.old self.new chain.new others (places self.old chain.old ++ self.old.free.first ∷ []) (held self.old chain.old ++ is_item item ∷ []) (drop 1 (places self.old self.old.free)) }
     {
         let one = self.take(item)?;
         *chain = join(self.records, *chain, one);
@@ -122,7 +122,7 @@ impl<'a, T: Copy> Pool<'a, T> {
     pub fn push_front(&mut self, chain: &mut Chain, item: T) -> Option<u32>
         ensures answer { result ≡ (if nat_eq self.old.free.count 0 then is_none else is_item self.old.free.first) }
         ensures refused { self.old.free.count ≡ 0 → Same self.old self.new × (chain.new ≡ chain.old) }
-        ensures chains { (others : List Chain) → 0 < self.old.free.count → Divided self.old (chain.old ∷ others) → Becomes self.old self.new chain.new others (self.old.free.first ∷ places self.old chain.old) (is_item item ∷ held self.old chain.old) }
+        ensures chains { (others : List Chain) → 0 < self.old.free.count → Divided self.old (chain.old ∷ others) → Becomes self.old self.new chain.new others (self.old.free.first ∷ places self.old chain.old) (is_item item ∷ held self.old chain.old) (drop 1 (places self.old self.old.free)) }
     {
         let one = self.take(item)?;
         *chain = join(self.records, one, *chain);
@@ -133,7 +133,7 @@ impl<'a, T: Copy> Pool<'a, T> {
     pub fn remove(&mut self, chain: &mut Chain, k: u32) -> Option<T>
         ensures answer { result ≡ slice_index_or (held self.old chain.old) k is_none }
         ensures refused { result ≡ is_none → Same self.old self.new × (chain.new ≡ chain.old) }
-        ensures chains { (others : List Chain) → k < chain.old.count → Divided self.old (chain.old ∷ others) → Becomes self.old self.new chain.new others (without k (places self.old chain.old)) (without k (held self.old chain.old)) }
+        ensures chains { (others : List Chain) → k < chain.old.count → Divided self.old (chain.old ∷ others) → Becomes self.old self.new chain.new others (without k (places self.old chain.old)) (without k (held self.old chain.old)) (slice_index (places self.old chain.old) k ∷ places self.old self.old.free) }
     {
         let from = *chain;
         let item = self.get(from, k)?;
@@ -147,7 +147,7 @@ impl<'a, T: Copy> Pool<'a, T> {
     pub fn pop_front(&mut self, chain: &mut Chain) -> Option<T>
         ensures answer { result ≡ slice_index_or (held self.old chain.old) 0 is_none }
         ensures refused { result ≡ is_none → Same self.old self.new × (chain.new ≡ chain.old) }
-        ensures chains { (others : List Chain) → 0 < chain.old.count → Divided self.old (chain.old ∷ others) → Becomes self.old self.new chain.new others (drop 1 (places self.old chain.old)) (drop 1 (held self.old chain.old)) }
+        ensures chains { (others : List Chain) → 0 < chain.old.count → Divided self.old (chain.old ∷ others) → Becomes self.old self.new chain.new others (drop 1 (places self.old chain.old)) (drop 1 (held self.old chain.old)) (slice_index (places self.old chain.old) 0 ∷ places self.old self.old.free) }
     {
         self.remove(chain, 0)
     }
@@ -156,7 +156,7 @@ impl<'a, T: Copy> Pool<'a, T> {
     pub fn move_to_back(&mut self, chain: &mut Chain, k: u32) -> bool
         ensures answer { result ≡ nat_lt k chain.old.count }
         ensures refused { chain.old.count ≤ k → Same self.old self.new × (chain.new ≡ chain.old) }
-        ensures chains { (others : List Chain) → k < chain.old.count → Divided self.old (chain.old ∷ others) → Becomes self.old self.new chain.new others (to_back k (places self.old chain.old)) (to_back k (held self.old chain.old)) }
+        ensures chains { (others : List Chain) → k < chain.old.count → Divided self.old (chain.old ∷ others) → Becomes self.old self.new chain.new others (to_back k (places self.old chain.old)) (to_back k (held self.old chain.old)) (places self.old self.old.free) }
     {
         if k >= chain.count {
             return false;
@@ -169,7 +169,7 @@ impl<'a, T: Copy> Pool<'a, T> {
     // Frees all records of a chain, which is then empty.
     pub fn release(&mut self, chain: &mut Chain)
         ensures empty { chain.new ≡ empty_chain }
-        ensures chains { (others : List Chain) → Divided self.old (chain.old ∷ others) → Becomes self.old self.new chain.new others [] [] }
+        ensures chains { (others : List Chain) → Divided self.old (chain.old ∷ others) → Becomes self.old self.new chain.new others [] [] (places self.old chain.old ++ places self.old self.old.free) }
     {
         self.free = join(self.records, *chain, self.free);
         *chain = Chain::new();

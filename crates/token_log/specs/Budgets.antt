@@ -1,5 +1,5 @@
 -- The log that a byte budget gives: two generations of turning filters, a set that goes over to a Bloom filter.
-use Rattle.std.specs.Prelude.{◌≡◌, ℕ, Bool, if◌then◌else◌, ◌&&◌, replicate, is_ok, vec_items, vec_capacity, Result, MatchResult, nat_le, nat_lt}
+use Rattle.std.specs.Prelude.{◌≡◌, ℕ, ◌+◌, Bool, if◌then◌else◌, ◌&&◌, replicate, is_ok, vec_items, vec_capacity, Result, MatchResult, nat_le, nat_lt}
 use Rattle.answers.specs.declared.Refused.{Refused}
 use Rattle.answers.specs.declared.Refusal.TheVariants.{HashCount, Capacity}
 use Rattle.filter.specs.Filter.{Fresh}
@@ -18,6 +18,10 @@ use Rattle.token_log.specs.declared.bloom_log.LogMemory.{LogMemory}
 -- enough memory for a generation with the sure count c: one place more than that, and the words
 abbrev pub suits : ℕ → ℕ → GenerationMemory → Bool
 suits budget c g = nat_lt c (room_of g.places) && nat_le (words_for budget) (vec_capacity g.words)
+
+-- and no more than that
+abbrev pub JustSuits : ℕ → ℕ → GenerationMemory → Type 0
+JustSuits budget c g = (room_of g.places ≡ c + 1) × (vec_capacity g.words ≡ words_for budget)
 
 abbrev pub suits_both : ℕ → ℕ → LogMemory → Bool
 suits_both budget c g = suits budget c g.one && suits budget c g.two

@@ -1,7 +1,7 @@
 ghost use Rattle.std.specs.Prelude.{◌≡◌, ℕ, ◌≤◌, true, IfOk};
 ghost use Rattle.bloom.specs.Sizes.{half as half_of, Largest};
 ghost use Rattle.bloom.specs.HashCount.{hash_count};
-ghost use Rattle.token_log.specs.Budgets.{suits as suits_for, suits_both, fits_hashes, Generation, Makes};
+ghost use Rattle.token_log.specs.Budgets.{suits as suits_for, suits_both, JustSuits, fits_hashes, Generation, Makes};
 
 use crate::TwoGenerationLog;
 use answers::{Refusal, Refused};
@@ -36,7 +36,8 @@ pub struct LogMemory {
 impl GenerationMemory {
     // Memory for a generation under a byte budget.
     pub fn allocate(heap: Global, budget: u32) -> Result<GenerationMemory, AllocError>
-        ensures { IfOk result (λ g. (c : ℕ) → Largest (half_of budget) c → suits_for budget c g ≡ true) }
+        ensures enough { IfOk result (λ g. (c : ℕ) → Largest (half_of budget) c → suits_for budget c g ≡ true) }
+        ensures no_more { IfOk result (λ g. (c : ℕ) → Largest (half_of budget) c → JustSuits budget c g) }
     {
         let places = Places::allocate(heap, sure_count(budget) + 1)?;
         let words = allocate_words(heap, budget)?;
@@ -55,7 +56,8 @@ impl GenerationMemory {
 impl LogMemory {
     // Memory for a log under a byte budget.
     pub fn allocate(heap: Global, budget: u32) -> Result<LogMemory, AllocError>
-        ensures { IfOk result (λ g. (c : ℕ) → Largest (half_of budget) c → suits_both budget c g ≡ true) }
+        ensures enough { IfOk result (λ g. (c : ℕ) → Largest (half_of budget) c → suits_both budget c g ≡ true) }
+        ensures no_more { IfOk result (λ g. (c : ℕ) → Largest (half_of budget) c → JustSuits budget c g.one × JustSuits budget c g.two) }
     {
         let one = GenerationMemory::allocate(heap, budget)?;
         let two = GenerationMemory::allocate(heap, budget)?;

@@ -16,7 +16,7 @@ mod two_generations;
 use answers::Cause;
 pub use bloom_log::{BloomTokenLog, DEFAULT_BUDGET, DEFAULT_HITS, GenerationMemory, LogMemory};
 use filter::Filter;
-pub use lifetime::Lifetime;
+pub use lifetime::{Lifetime, equal_lifetimes_are_the_same};
 pub use two_generations::TwoGenerationLog;
 
 // A memory of used tokens: of the low half of each one's nonce, and its issue time in seconds.

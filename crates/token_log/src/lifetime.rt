@@ -1,3 +1,4 @@
+ghost use Rattle.answers.specs.Sameness.{TellsSameness};
 ghost use Rattle.std.specs.Prelude.{◌≡◌, ℕ, ◌≤◌, Ok, Err, if◌then◌else◌, nat_le};
 ghost use Rattle.answers.specs.declared.Refusal.TheVariants.{LongLifetime};
 ghost use Rattle.token_log.specs.Log.{issue, expiry};
@@ -57,3 +58,8 @@ impl Lifetime {
         self.nanos
     }
 }
+
+// Two lifetimes are equal just if they are the same.
+pub fn equal_lifetimes_are_the_same()
+    ensures { TellsSameness (⟦<Lifetime as PartialEq>⟧.eq) }
+{}

@@ -63,13 +63,13 @@ without_one t hs k d h v =
     let rest : map chain_of (cut k hs) ≡ front ++ back = map-append chain_of (take k hs) (drop (k + 1) hs) in
     subst (λ cs. Divided t (c ∷ cs)) (sym rest) (to_front t front back c (subst (Divided t) whole v))
 
-pub taken_off : (s : Shelf) (names' : Pool NameEntry) (used' : Chain) (ps : List ℕ) (k : ℕ) (x : NameEntry) → Stands [] s → k < length (listed s)
-    → PoolBecomes s.names names' used' [] ps (cut k (held s.names s.used)) → slice_index_or (held s.names s.used) k None ≡ Some x
+pub taken_off : (s : Shelf) (names' : Pool NameEntry) (used' : Chain) (ps fs : List ℕ) (k : ℕ) (x : NameEntry) → Stands [] s → k < length (listed s)
+    → PoolBecomes s.names names' used' [] ps (cut k (held s.names s.used)) fs → slice_index_or (held s.names s.used) k None ≡ Some x
     → TakenOff k s (shelf names' s.tokens used') x.tokens
-taken_off s names' used' ps k x st l b e =
+taken_off s names' used' ps fs k x st l b e =
     let hs = listed s in
     let g = given s.names s.used [] st.names in
-    let h = holds s.names names' s.used used' [] ps _ (cut k hs) st.names b (ap (cut k) (sym g) ∙ sym (map-without (λ y. Some y) k hs)) in
+    let h = holds s.names names' s.used used' [] ps _ fs (cut k hs) st.names b (ap (cut k) (sym g) ∙ sym (map-without (λ y. Some y) k hs)) in
     let r = read s.names s.used [] k x st.names l in
     let is : slice_index_or hs k x ≡ x = cc in
     record {
@@ -95,22 +95,22 @@ room_there s most st l =
       size = record { names = refl; tokens = refl };
     }
 
-pub roomed : (s : Shelf) (names' : Pool NameEntry) (tokens' : Pool Bytes) (used' c' : Chain) (ps : List ℕ) (most : ℕ) (x : NameEntry) → Stands [] s → 0 < most → most ≤ s.used.count
-    → PoolBecomes s.names names' used' [] ps (drop 1 (held s.names s.used)) → slice_index_or (held s.names s.used) 0 None ≡ Some x
-    → ((others : List Chain) → Divided s.tokens (x.tokens ∷ others) → PoolBecomes s.tokens tokens' c' others [] []) → c' ≡ empty_chain
+pub roomed : (s : Shelf) (names' : Pool NameEntry) (tokens' : Pool Bytes) (used' c' : Chain) (ps fs gs : List ℕ) (most : ℕ) (x : NameEntry) → Stands [] s → 0 < most → most ≤ s.used.count
+    → PoolBecomes s.names names' used' [] ps (drop 1 (held s.names s.used)) fs → slice_index_or (held s.names s.used) 0 None ≡ Some x
+    → ((others : List Chain) → Divided s.tokens (x.tokens ∷ others) → PoolBecomes s.tokens tokens' c' others [] [] gs) → c' ≡ empty_chain
     → Becomes [] s (shelf names' tokens' used') (if nat_le most (length (entries s)) then drop 1 (entries s) else entries s)
-roomed s names' tokens' used' c' ps most x st z l b e rel ec =
+roomed s names' tokens' used' c' ps fs gs most x st z l b e rel ec =
     let hs = listed s in
     let n = length-items s.names s.used [] st.names in
     let m = length-map hs (entry_in s.tokens) in
     let g = given s.names s.used [] st.names in
-    let h = holds s.names names' s.used used' [] ps _ (drop 1 hs) st.names b (ap (drop 1) (sym g) ∙ drop-map (λ y. Some y) 1 hs) in
+    let h = holds s.names names' s.used used' [] ps _ fs (drop 1 hs) st.names b (ap (drop 1) (sym g) ∙ drop-map (λ y. Some y) 1 hs) in
     let some : 0 < length hs = omega arith in
     let r = read s.names s.used [] 0 x st.names some in
     let is : slice_index_or hs 0 x ≡ x = cc in
     let others = map chain_of (drop 1 hs) in
     let v : Divided s.tokens (x.tokens ∷ others) = subst (λ y. Divided s.tokens (y.tokens ∷ others)) is (without_one s.tokens hs 0 x some st.tokens) in
-    let k = holds s.tokens tokens' x.tokens c' others [] [] [] v (rel others v) refl in
+    let k = holds s.tokens tokens' x.tokens c' others [] [] gs [] v (rel others v) refl in
     record {
       stands = record {
         names = h.divided;
@@ -130,14 +130,14 @@ free_name s loose st l =
     let a = all_counted s.names (s.used ∷ []) st.names in
     omega arith
 
-pub put : (s : Shelf) (names' : Pool NameEntry) (used' : Chain) (ps : List ℕ) (n : Bytes) (c : Chain) → Stands (c ∷ []) s
-    → PoolBecomes s.names names' used' [] ps (held s.names s.used ++ Some (record { name = n; tokens = c }) ∷ [])
+pub put : (s : Shelf) (names' : Pool NameEntry) (used' : Chain) (ps fs : List ℕ) (n : Bytes) (c : Chain) → Stands (c ∷ []) s
+    → PoolBecomes s.names names' used' [] ps (held s.names s.used ++ Some (record { name = n; tokens = c }) ∷ []) fs
     → Becomes [] s (shelf names' s.tokens used') (entries s ++ record { name = n; tokens = items s.tokens c } ∷ [])
-put s names' used' ps n c st b =
+put s names' used' ps fs n c st b =
     let hs = listed s in
     let e : NameEntry = record { name = n; tokens = c } in
     let g = given s.names s.used [] st.names in
-    let h = holds s.names names' s.used used' [] ps _ (hs ++ e ∷ []) st.names b (ap (λ l. l ++ Some e ∷ []) (sym g) ∙ sym (map-append (λ y. Some y) hs (e ∷ []))) in
+    let h = holds s.names names' s.used used' [] ps _ fs (hs ++ e ∷ []) st.names b (ap (λ l. l ++ Some e ∷ []) (sym g) ∙ sym (map-append (λ y. Some y) hs (e ∷ []))) in
     record {
       stands = record {
         names = h.divided;
@@ -171,9 +171,9 @@ pub record Middle (s m : Shelf) (c : Chain) (ts : List Bytes) : Type 0 where
 abbrev pub dropped : ℕ → List Bytes → List Bytes
 dropped most ts = if nat_le most (length ts) then drop 1 ts else ts
 
-pub popped : (s : Shelf) (t' : Pool Bytes) (c c' : Chain) (ps : List ℕ) (most : ℕ) → Stands (c ∷ []) s → most ≤ c.count
-    → PoolBecomes s.tokens t' c' (chains s) ps (drop 1 (held s.tokens c)) → Middle s (shelf s.names t' s.used) c' (dropped most (items s.tokens c))
-popped s t' c c' ps most st l b =
+pub popped : (s : Shelf) (t' : Pool Bytes) (c c' : Chain) (ps fs : List ℕ) (most : ℕ) → Stands (c ∷ []) s → most ≤ c.count
+    → PoolBecomes s.tokens t' c' (chains s) ps (drop 1 (held s.tokens c)) fs → Middle s (shelf s.names t' s.used) c' (dropped most (items s.tokens c))
+popped s t' c c' ps fs most st l b =
     let ts = items s.tokens c in
     let n = length-items s.tokens c (chains s) st.tokens in
     let g = given s.tokens c (chains s) st.tokens in
@@ -181,7 +181,7 @@ popped s t' c c' ps most st l b =
     record {
       names = refl;
       used = refl;
-      holds = subst (Holds s.tokens t' c' (chains s)) (sym full) (holds s.tokens t' c c' (chains s) ps _ (drop 1 ts) st.tokens b (ap (drop 1) (sym g) ∙ drop-map (λ y. Some y) 1 ts));
+      holds = subst (Holds s.tokens t' c' (chains s)) (sym full) (holds s.tokens t' c c' (chains s) ps _ fs (drop 1 ts) st.tokens b (ap (drop 1) (sym g) ∙ drop-map (λ y. Some y) 1 ts));
     }
 
 pub not_full : (s : Shelf) (c : Chain) (most : ℕ) → Stands (c ∷ []) s → c.count < most → Middle s s c (dropped most (items s.tokens c))
@@ -219,13 +219,13 @@ free_token s m c c' most st r k =
     let z = h.size in
     omega arith
 
-pub refilled : (s m : Shelf) (t' : Pool Bytes) (c c' c'' : Chain) (ps : List ℕ) (most : ℕ) (t : Bytes) → Stands (c ∷ []) s → has t (items s.tokens c) ≡ false
-    → Middle s m c' (dropped most (items s.tokens c)) → PoolBecomes m.tokens t' c'' (chains s) ps (held m.tokens c' ++ Some t ∷ [])
+pub refilled : (s m : Shelf) (t' : Pool Bytes) (c c' c'' : Chain) (ps fs : List ℕ) (most : ℕ) (t : Bytes) → Stands (c ∷ []) s → has t (items s.tokens c) ≡ false
+    → Middle s m c' (dropped most (items s.tokens c)) → PoolBecomes m.tokens t' c'' (chains s) ps (held m.tokens c' ++ Some t ∷ []) fs
     → Refilled s (shelf m.names t' m.used) c'' (added most t (items s.tokens c))
-refilled s m t' c c' c'' ps most t st absent k b =
+refilled s m t' c c' c'' ps fs most t st absent k b =
     let h = k.holds in
     let g = given m.tokens c' (chains s) h.divided in
-    let j = holds m.tokens t' c' c'' (chains s) ps _ (items m.tokens c' ++ t ∷ []) h.divided b (ap (λ l. l ++ Some t ∷ []) (sym g) ∙ sym (map-append (λ y. Some y) (items m.tokens c') (t ∷ []))) in
+    let j = holds m.tokens t' c' c'' (chains s) ps _ fs (items m.tokens c' ++ t ∷ []) h.divided b (ap (λ l. l ++ Some t ∷ []) (sym g) ∙ sym (map-append (λ y. Some y) (items m.tokens c') (t ∷ []))) in
     rw (k.names, k.used) (record {
       stands = record { names = st.names; tokens = j.divided };
       tokens = j.gives ∙ ap (λ l. l ++ t ∷ []) h.gives ∙ sym (cond-false _ _ _ absent);
@@ -235,12 +235,12 @@ refilled s m t' c c' c'' ps most t st absent k b =
 
 -- ---- a token taken out
 
-pub popped_out : (s : Shelf) (t' : Pool Bytes) (c c' : Chain) (ps : List ℕ) → Stands (c ∷ []) s → PoolBecomes s.tokens t' c' (chains s) ps (drop 1 (held s.tokens c))
+pub popped_out : (s : Shelf) (t' : Pool Bytes) (c c' : Chain) (ps fs : List ℕ) → Stands (c ∷ []) s → PoolBecomes s.tokens t' c' (chains s) ps (drop 1 (held s.tokens c)) fs
     → Refilled s (shelf s.names t' s.used) c' (drop 1 (items s.tokens c))
-popped_out s t' c c' ps st b =
+popped_out s t' c c' ps fs st b =
     let ts = items s.tokens c in
     let g = given s.tokens c (chains s) st.tokens in
-    let h = holds s.tokens t' c c' (chains s) ps _ (drop 1 ts) st.tokens b (ap (drop 1) (sym g) ∙ drop-map (λ y. Some y) 1 ts) in
+    let h = holds s.tokens t' c c' (chains s) ps _ fs (drop 1 ts) st.tokens b (ap (drop 1) (sym g) ∙ drop-map (λ y. Some y) 1 ts) in
     record {
       stands = record { names = st.names; tokens = h.divided };
       tokens = h.gives;

@@ -1,5 +1,5 @@
 -- The laws of contents: each has exactly one encoding, which decoding undoes.
-use Rattle.std.specs.Prelude.{◌≡◌, ℕ, ◌<◌, ◌≤◌, Bool, Decides, List, length, Ok}
+use Rattle.std.specs.Prelude.{◌≡◌, ℕ, ◌<◌, ◌≤◌, List, length, Ok}
 use Rattle.wire.specs.declared.types.IpAddr.{IpAddr}
 use Rattle.wire.specs.declared.types.IpAddr.TheVariants.{V4, V6}
 use Rattle.wire.specs.declared.types.SocketAddr.{SocketAddr}
@@ -19,10 +19,6 @@ SoundAddr a = SoundIp a.ip × (a.port < 65536)
 abbrev pub Sound : TokenPayload → Type 0
 Sound (Retry address id seconds) = SoundAddr address × (length id ≤ 20) × (seconds < 4294967296)
 Sound (Validation ip seconds) = SoundIp ip × (seconds < 4294967296)
-
--- a test of equality tells whether two values are the same
-abbrev pub TellsSameness : {A : Type 0} → (A → A → Bool) → Type 0
-TellsSameness {A = A} E = (a b : A) → Decides (E a b) (a ≡ b)
 
 -- decoding gives back every encoded content
 abbrev pub DecodingUndoesEncoding : Type 0

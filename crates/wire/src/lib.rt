@@ -1,8 +1,9 @@
 #![tactic(auto)]
 
 ghost use Rattle.std.specs.Prelude.{◌≡◌, ◌<◌, ◌≤◌, length};
+ghost use Rattle.answers.specs.Sameness.{TellsSameness};
 ghost use Rattle.wire.specs.Content.{id_from};
-ghost use Rattle.wire.specs.Laws.{SoundIp, Sound, TellsSameness, DecodingUndoesEncoding, EachContentHasOneEncoding, ContentsAreShort};
+ghost use Rattle.wire.specs.Laws.{SoundIp, Sound, DecodingUndoesEncoding, EachContentHasOneEncoding, ContentsAreShort};
 
 mod decode;
 mod encode;

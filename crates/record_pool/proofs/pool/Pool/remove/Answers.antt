@@ -12,7 +12,7 @@ detach-requires g c =
     omega arith
 
 pub returns-clause-chains : goal.returns-clause-chains
-returns-clause-chains g c others within d = becomes c.args.self.now _ _ others _ _
+returns-clause-chains g c others within d = becomes c.args.self.now _ _ others _ _ _
     (removed c.args.self.now.records.now c.detach.new.records c.join-self.new.records
     c.args.self.now.free c.args.chain.now c.detach.result.rest c.detach.result.one c.join-self.result others c.args.k
     d.size within c.detach.ensures.slots

@@ -17,5 +17,5 @@ pub returns : goal.returns
 returns c =
     let s = c.args.self.now in
     let z = c.requires.some in
-    roomed s c.remove.new.self c.release.new.self c.remove.new.chain c.release.new.chain _ c.args.most c.unwrap-entry.result c.requires.stands z (omega arith)
+    roomed s c.remove.new.self c.release.new.self c.remove.new.chain c.release.new.chain _ _ _ c.args.most c.unwrap-entry.result c.requires.stands z (omega arith)
     (c.remove.ensures.chains [] (omega arith) c.requires.stands.names) (sym c.remove.ensures.answer ∙ c.unwrap-entry.ensures) c.release.ensures.chains c.release.ensures.empty

@@ -15,6 +15,6 @@ pub returns : goal.returns
 returns c =
     let s = c.args.self.now in
     record {
-      tokens = popped_out s c.remove.new.self c.args.tokens.now c.remove.new.chain _ c.requires.stands (c.remove.ensures.chains (chains s) c.requires.some c.requires.stands.tokens);
+      tokens = popped_out s c.remove.new.self c.args.tokens.now c.remove.new.chain _ _ c.requires.stands (c.remove.ensures.chains (chains s) c.requires.some c.requires.stands.tokens);
       oldest = oldest_is s c.args.tokens.now c.unwrap.result c.requires.stands (sym c.remove.ensures.answer ∙ c.unwrap.ensures);
     }

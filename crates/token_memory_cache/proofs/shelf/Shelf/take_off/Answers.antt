@@ -18,5 +18,5 @@ pub returns : goal.returns
 returns c =
     let s = c.args.self.now in
     let l = length-items s.names s.used [] c.requires.stands.names in
-    taken_off s c.remove.new.self c.remove.new.chain _ c.args.k c.unwrap.result c.requires.stands c.requires.there
+    taken_off s c.remove.new.self c.remove.new.chain _ _ c.args.k c.unwrap.result c.requires.stands c.requires.there
     (c.remove.ensures.chains [] (omega arith) c.requires.stands.names) (sym c.remove.ensures.answer ∙ c.unwrap.ensures)

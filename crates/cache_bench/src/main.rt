@@ -1,4 +1,5 @@
 #![tactic(auto)]
+
 ghost use Rattle.std.specs.Prelude.{◌<◌, ◌≤◌};
 
 use answers::Refusal;
@@ -107,7 +108,12 @@ fn measure(rt: &HostRuntime, names: u32) -> anyhow::Result<()>
     }
     let mut name_memory = vec![in heap; Record::new(NameEntry::new()); names as usize]?;
     let mut token_memory = vec![in heap; Record::new(Text::new()); 2 * names as usize]?;
-    let mut cache = unrefused(TokenMemoryCache::new(names, 2, &mut name_memory, &mut token_memory))?;
+    let mut cache = unrefused(TokenMemoryCache::new(
+        names,
+        2,
+        &mut name_memory,
+        &mut token_memory,
+    ))?;
     let mut least = round(rt, &mut cache, &units, names)?;
     for _ in 0..ROUNDS {
         least = least.least(round(rt, &mut cache, &units, names)?);

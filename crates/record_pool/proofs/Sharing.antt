@@ -4,7 +4,7 @@ use Rattle.std.specs.List.{flat_map}
 use Rattle.std.proofs.lemmas.Bool.{cases_eq}
 use Rattle.std.proofs.lemmas.List.{append_assoc, take-append-drop, drop_more, take_more, drop_all, append-nil}
 use Rattle.record_pool.specs.declared.chain.Chain.{Chain}
-use Rattle.record_pool.specs.Chains.{walk, follow, along, empty_chain, hit, times, Ended, Shared, without, Detached, Joined}
+use Rattle.record_pool.specs.Chains.{walk, follow, along, empty_chain, hit, times, Ended, Shared, without, Detached, Joined, down}
 use Rattle.record_pool.proofs.Runs.{hit_same, hit_other, times-++, follow_more, length-walk, get_d_walk, Runs, runs_of, walk_of, end_of, run_frame, splice, run_after}
 
 -- ---- lists
@@ -297,10 +297,6 @@ two_counts n nx a b others sh =
 
 -- ---- all places in one chain, from the last down
 
-abbrev down : ℕ → List ℕ
-down zero = []
-down (suc n) = suc n ∷ down n
-
 runs_down : (n : ℕ) (nx : List ℕ) → ((k : ℕ) → k ≤ n → slice_index nx k ≡ k - 1) → Runs nx n (down n)
 runs_down zero nx h = refl
 runs_down (suc n) nx h =
@@ -347,6 +343,9 @@ shared_down n nx h =
       full = ap length e ∙ length-down n;
       ended = (end_of nx n (down n) n r (length-down n), tt);
     }
+
+pub along_down : (n : ℕ) (nx : List ℕ) → ((k : ℕ) → k ≤ n → slice_index nx k ≡ k - 1) → walk n nx n ≡ down n
+along_down n nx h = walk_of nx n (down n) n (runs_down n nx h) (length-down n)
 
 pub down_more : (nx nx' : List ℕ) (i : ℕ) → i + 1 < length nx → nx' ≡ set nx (i + 1) i → ((k : ℕ) → k ≤ i → slice_index nx k ≡ k - 1) → (k : ℕ) → k ≤ i + 1 → slice_index nx' k ≡ k - 1
 down_more nx nx' i long e h k le = ap (λ (mx : List ℕ). slice_index mx k) e ∙ ⊎_elim here there (cases_eq k (i + 1))

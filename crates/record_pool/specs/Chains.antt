@@ -18,6 +18,11 @@ follow (suc k) nx s = follow k nx (slice_index nx s)
 abbrev pub along : List ℕ → Chain → List ℕ
 along nx c = walk c.count nx c.first
 
+-- the places of n records, from the last to the first
+abbrev pub down : ℕ → List ℕ
+down zero = []
+down (suc n) = suc n ∷ down n
+
 abbrev pub empty_chain : Chain
 empty_chain = record { first = 0; count = 0 }
 

@@ -2,7 +2,7 @@
 // the pool: a call of a method takes the pool whole, while its free chain is being changed.
 ghost use Rattle.std.specs.Prelude.{◌≡◌, ◌+◌, ◌^◌, ◌<◌, List, [], ◌∷◌, length, is_some, MatchOption, slice_index, slice_set};
 ghost use Rattle.record_pool.specs.declared.chain.Chain.{Chain};
-ghost use Rattle.record_pool.specs.Chains.{follow, Shared, Detached, Joined};
+ghost use Rattle.record_pool.specs.Chains.{follow, along, down, Shared, Detached, Joined};
 ghost use Rattle.record_pool.specs.Pools.{Outside, links, slots, item_at, some_at};
 
 use crate::chain::Chain;
@@ -125,6 +125,7 @@ pub(crate) fn chain_all<T: Copy>(records: &mut [Record<T>]) -> Chain
     ensures slots { slots records.new ≡ slots records.old }
     ensures count { result.count ≡ length records.old }
     ensures chains { Shared (length records.old) (links records.new) (result ∷ []) }
+    ensures order { along (links records.new) result ≡ down (length records.old) }
 {
     let count = records.len() as u32;
     for (i, record) in records.iter_mut().enumerate() {

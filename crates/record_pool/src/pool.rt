@@ -1,7 +1,7 @@
 ghost use Rattle.std.specs.Prelude.{◌≡◌, ℕ, ◌+◌, ◌^◌, ◌<◌, ◌≤◌, List, [], ◌∷◌, ◌++◌, map, length, drop, is_some, is_ok, if◌then◌else◌, Some as is_item, None as is_none, IfSome, MatchOption, MatchResult, nat_eq, nat_lt, slice_index, slice_index_or, slice_set};
 ghost use Rattle.answers.specs.declared.Refusal.TheVariants.{Capacity};
 ghost use Rattle.record_pool.specs.declared.chain.Chain.{Chain};
-ghost use Rattle.record_pool.specs.Chains.{empty_chain, without};
+ghost use Rattle.record_pool.specs.Chains.{empty_chain, down, without};
 ghost use Rattle.record_pool.specs.Items.{items_left};
 ghost use Rattle.record_pool.specs.Pools.{some_place, links, slots, item_at, some_at, places, held, items, Divided, Becomes, Same, nth, to_back};
 
@@ -22,7 +22,7 @@ impl<'a, T: Copy> Pool<'a, T> {
     // A pool of these records, all free. More than 32 bits can count are refused.
     pub fn new(records: &'a mut [Record<T>]) -> Result<Pool<'a, T>, Refusal>
         ensures answer { is_ok result ≡ nat_lt (length records.old) (2 ^ 32) }
-        ensures cases { MatchResult result (λ p. Divided p [] × (p.free.count ≡ length records.old) × (slots p.records.now ≡ slots records.old)) (λ e. e ≡ Capacity) }
+        ensures cases { MatchResult result (λ p. Divided p [] × (places p p.free ≡ down (length records.old)) × (p.free.count ≡ length records.old) × (slots p.records.now ≡ slots records.old)) (λ e. e ≡ Capacity) }
     {
         if records.len() > u32::MAX as usize {
             return Err(Refusal::Capacity);

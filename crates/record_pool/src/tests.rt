@@ -87,3 +87,19 @@ fn names_have_numbers(rt: HostRuntime) -> Result<(), Fail> {
     assert!(rt; last.id == ten.id && holds(&numbers, last.numbers, &[11, 12, 13]));
     Ok(())
 }
+
+#[test]
+fn the_place_freed_last_is_used_first(rt: HostRuntime) -> Result<(), Fail> {
+    let mut memory = [Record::new(0); 3];
+    let mut pool = Pool::new(&mut memory)?;
+    let mut chain = Chain::new();
+    for place in [3, 2, 1] {
+        assert_eq!(rt; pool.push_back(&mut chain, place), Some(place));
+    }
+    assert_eq!(rt; pool.remove(&mut chain, 1), Some(2));
+    assert_eq!(rt; pool.pop_front(&mut chain), Some(3));
+    assert_eq!(rt; pool.push_back(&mut chain, 8), Some(3));
+    assert_eq!(rt; pool.push_back(&mut chain, 9), Some(2));
+    assert!(rt; holds(&pool, chain, &[1, 8, 9]));
+    Ok(())
+}

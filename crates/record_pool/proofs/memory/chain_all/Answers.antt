@@ -1,7 +1,7 @@
 use Rattle.std.proofs.Common.{◌+◌, ◌<◌, length, refl, ◌∙◌, arith}
 use Rattle.record_pool.specs.Pools.{links}
 use Rattle.record_pool.proofs.Cells.{length-links, links-set, slots_same}
-use Rattle.record_pool.proofs.Sharing.{down_more, shared_down}
+use Rattle.record_pool.proofs.Sharing.{down_more, shared_down, along_down}
 use Rattle.record_pool.proofs.memory.chain_all.Goals as goal
 
 pub loop-i-preserved : goal.loop-i-preserved
@@ -15,3 +15,6 @@ loop-i-preserved g c =
 
 pub returns-clause-chains : goal.returns-clause-chains
 returns-clause-chains g c = shared_down (length c.args.records.now) (links c.loop-i.records) (λ k h. c.loop-i.invariant.0 k (omega arith))
+
+pub returns-clause-order : goal.returns-clause-order
+returns-clause-order g c = along_down (length c.args.records.now) (links c.loop-i.records) (λ k h. c.loop-i.invariant.0 k (omega arith))

@@ -7,7 +7,7 @@
 
 `random` gives each seed two scripts, one of all kinds of calls (tools/link_compare.py says how) and one of arrivals that fill a
 log. `all` goes through short successions of a few calls, all
-there are, and through arrivals around every edge. `sample` writes scripts and the Rust's answers for the crate `rust_replay`.
+there are, and through arrivals around every edge. `sample` writes scripts and the Rust's answers for `.ci/replay`.
 A call that the part refuses, or a token whose issue time is past the part's range, has no answer there (`-`); what else
 differs is told, and the script is left in difference.txt.
 """
@@ -27,7 +27,7 @@ from link_model import SECOND, Bench, encode
 
 OURS = link_compare.PROGRAM
 RUST = HERE / "target/release/compare"
-REPLAY = HERE.parent / "crates/rust_replay"
+SAMPLE = HERE / "sample"
 KEY = bytes(range(16))
 SECRET = bytes(range(32))
 
@@ -214,8 +214,8 @@ def sample():
         if len(told) > 4:
             texts.append("\n".join(lines) + "\n")
             answers += told
-    (REPLAY / "stdin").write_text("end\n".join(texts))
-    (REPLAY / "stdout").write_text("\n".join(answers) + "\n")
+    (SAMPLE / "scripts").write_text("end\n".join(texts))
+    (SAMPLE / "answers").write_text("\n".join(answers) + "\n")
     print(f"{len(answers)} answers of {len(texts)} scripts")
 
 

@@ -1,7 +1,7 @@
 // Makes the calls, and keeps the slip of the last arrival until it is spent.
 ghost use Rattle.std.specs.Prelude.{◌≤◌, vec_len};
 
-use crate::answer::{Bytes, Causes, print_refusal, print_verdict};
+use crate::answer::{Bytes, print_refusal, print_verdict};
 use crate::command::{Arrive, Command, End, Insert, Issue, Retry, Take};
 use crate::words::MOST;
 use answers::Refused;
@@ -18,7 +18,6 @@ pub(crate) struct Session<S, L, T> {
     gate: Gate<S, L>,
     store: T,
     slip: Option<Slip>,
-    causes: Causes,
     out: Vec<u8>,
     working: Vec<u8>,
 }
@@ -40,7 +39,6 @@ fn cut(buffer: &Vec<u8>, length: usize) -> usize
 impl<S: SealingScheme + Drop, L: TokenLog + Drop, T: TokenStore + Drop> Session<S, L, T> {
     pub(crate) fn new(
         heap: Global,
-        causes: Causes,
         gate: Gate<S, L>,
         store: T,
     ) -> Result<Session<S, L, T>, AllocError> {
@@ -50,7 +48,6 @@ impl<S: SealingScheme + Drop, L: TokenLog + Drop, T: TokenStore + Drop> Session<
             gate,
             store,
             slip: None,
-            causes,
             out,
             working,
         })
@@ -62,7 +59,6 @@ impl<S: SealingScheme + Drop, L: TokenLog + Drop, T: TokenStore + Drop> Session<
             gate: _,
             store: _,
             slip,
-            causes: _,
             out: _,
             working: _,
         } = self;
@@ -105,7 +101,7 @@ impl<S: SealingScheme, L: TokenLog, T: TokenStore> Session<S, L, T> {
         ) {
             Ok(Arrived { verdict, slip }) => {
                 self.open(slip);
-                print_verdict(rt, self.causes, &verdict)
+                print_verdict(rt, &verdict)
             }
             Err(refusal) => print_refusal(rt, refusal),
         }

@@ -1,7 +1,7 @@
 // Makes what the head asks for, and runs the rest of the script over it.
-use crate::answer::{Causes, print_refusal};
+use crate::answer::print_refusal;
 use crate::head::{GateHead, LogHead, SchemeHead, StoreHead};
-use crate::script::{Line, Script};
+use crate::script::Script;
 use crate::session::Session;
 use answers::{Refusal, Refused};
 use bloom::{BloomFilter, MAX_BUDGET, allocate_words, optimal_k_num, sure_count};
@@ -59,14 +59,9 @@ impl From<io::Error> for Stop {
     }
 }
 
-// Runs a script. A refusal in the head is told, and ends the run.
-pub fn run_script(
-    rt: &impl Print,
-    heap: Global,
-    lines: &[Line<'_>],
-    causes: Causes,
-) -> anyhow::Result<()> {
-    match with_scheme(rt, &mut Script::new(heap, lines, causes)) {
+// A refusal in the head is told, and ends the run.
+pub(crate) fn run_script(rt: &impl Print, script: &mut Script<'_>) -> anyhow::Result<()> {
+    match with_scheme(rt, script) {
         Ok(()) => Ok(()),
         Err(Stop::Refused(refusal)) => {
             print_refusal(rt, refusal)?;
@@ -196,7 +191,7 @@ fn run_session<S: SealingScheme + Drop, L: TokenLog + Drop, T: TokenStore + Drop
     gate: Gate<S, L>,
     store: T,
 ) -> Result<(), Stop> {
-    let mut session = Session::new(script.heap, script.causes, gate, store)?;
+    let mut session = Session::new(script.heap, gate, store)?;
     let ran = script.run(rt, &mut session);
     session.end();
     Ok(ran?)

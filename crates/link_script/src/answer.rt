@@ -21,34 +21,14 @@ pub(crate) fn print_refusal(rt: &impl Print, refusal: Refusal) -> io::Result<()>
     println!(rt; "refused {}", refusal.number())
 }
 
-// Whether a verdict's line tells its number.
-#[derive(Clone, Copy, PartialEq, Eq)]
-pub enum Causes {
-    Told,
-    Untold,
-}
-
-// A number with a space before it, or nothing.
-#[derive(Clone, Copy)]
-struct Number(Option<u8>);
-
-impl fmt::Display for Number {
-    fn fmt<W: fmt::Write>(&self, f: &mut fmt::Formatter<W>) -> fmt::Result {
-        match self.0 {
-            Some(number) => write!(f, " {number}"),
-            None => Ok(()),
-        }
-    }
-}
-
-pub(crate) fn print_verdict(rt: &impl Print, causes: Causes, verdict: &Verdict) -> io::Result<()> {
-    let number = Number((causes == Causes::Told).then_some(verdict.number()));
+pub(crate) fn print_verdict(rt: &impl Print, verdict: &Verdict) -> io::Result<()> {
+    let number = verdict.number();
     match verdict {
         Verdict::Validated {
             retry_src_cid: Some(source),
             orig_dst_cid,
         } => println!(rt;
-            "validated{number} source {} original {}",
+            "validated {number} source {} original {}",
             Bytes(source.as_slice()),
             Bytes(orig_dst_cid.as_slice())
         ),
@@ -56,13 +36,13 @@ pub(crate) fn print_verdict(rt: &impl Print, causes: Causes, verdict: &Verdict) 
             retry_src_cid: None,
             orig_dst_cid,
         } => println!(rt;
-            "validated{number} source none original {}",
+            "validated {number} source none original {}",
             Bytes(orig_dst_cid.as_slice())
         ),
         Verdict::Unvalidated { orig_dst_cid, .. } => println!(rt;
-            "unvalidated{number} source none original {}",
+            "unvalidated {number} source none original {}",
             Bytes(orig_dst_cid.as_slice())
         ),
-        Verdict::Rejected { .. } => println!(rt; "rejected{number}"),
+        Verdict::Rejected { .. } => println!(rt; "rejected {number}"),
     }
 }

@@ -1,36 +1,23 @@
 // Goes through the lines of a script.
-use crate::answer::Causes;
 use crate::command::read_line;
 use crate::head::{Head, read_head};
 use crate::session::Session;
 use crate::words::{Bad, Words};
 use sealing::SealingScheme;
-use std::alloc::{AllocError, Global};
+use std::alloc::Global;
 use std::{io, slice};
 use token_log::TokenLog;
 use token_store::TokenStore;
 
-// A line that says something, with its place, counted from 0.
-pub type Line<'a> = (usize, &'a str);
-
-// The lines that are left of a script, the heap that is used to read them, and whether causes are told.
+// The lines that are left of a script, each with its place, counted from 0, and the heap that is used to read them.
 #[derive(Drop)]
 pub(crate) struct Script<'a> {
     pub(crate) heap: Global,
-    pub(crate) causes: Causes,
-    lines: slice::Iter<'a, Line<'a>>,
-}
-
-// The lines of a text that say something.
-pub fn lines_of<'a>(heap: Global, text: &'a str) -> Result<Vec<Line<'a>>, AllocError> {
-    text.lines()
-        .enumerate()
-        .filter(|(_, line)| says_something(line))
-        .collect(heap)
+    lines: slice::Iter<'a, (usize, &'a str)>,
 }
 
 // Whether a line says something: it is not empty, and no comment.
-fn says_something(line: &str) -> bool {
+pub(crate) fn says_something(line: &str) -> bool {
     !line.is_empty() && !line.starts_with('#')
 }
 
@@ -40,10 +27,9 @@ fn complain(rt: &impl Print, at: usize, bad: Bad) -> io::Result<()> {
 }
 
 impl<'a> Script<'a> {
-    pub(crate) fn new(heap: Global, lines: &'a [Line<'a>], causes: Causes) -> Script<'a> {
+    pub(crate) fn new(heap: Global, lines: &'a [(usize, &'a str)]) -> Script<'a> {
         Script {
             heap,
-            causes,
             lines: lines.iter(),
         }
     }

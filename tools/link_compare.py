@@ -5,8 +5,9 @@
     python3 tools/link_compare.py FIRST_SEED LAST_SEED CALLS
 
 A seed gives a script: scheme, log and lifetimes, then so many calls around every edge (times at and past an expiry,
-tokens that were written before, whole and damaged, names and tokens stored again, buffers one short, lines that are no calls). It stops at the first
-difference, and leaves that script in difference.txt; else it prints how often each answer came.
+tokens that were written before, whole and damaged, names and tokens stored again, buffers one short, lines that are no calls, no
+text or too long, both line ends and none at the end). It stops at the first difference, and leaves that script in difference.txt;
+else it prints how often each answer came.
 """
 import collections
 import pathlib
@@ -15,7 +16,7 @@ import subprocess
 import sys
 
 import link_model
-from link_model import LAST_CLOCK, LONGEST_LIFETIME, SECOND, Bench, Ccm, encode
+from link_model import LAST_CLOCK, LONGEST_LIFETIME, LONGEST_LINE, SECOND, Bench, Ccm, encode
 
 PROGRAM = pathlib.Path(__file__).parent.parent / "crates/link_script/out/link_script"
 DAY = 86_400 * SECOND
@@ -27,7 +28,16 @@ ODD_STORE_CALLS = ["take - room 511", "take " + "n" * 256 + " room 511", "take "
 NO_CALLS = [
     "foo", "accept x", "arrive", "issue 1", "issue 1 2 300.0.0.1 5", "k -1 2", "arrive zz - 1.2.3.4 1 1", "retry 1 2", "take",
     "  ", "# c", "issue 18446744073709551616 0 1.2.3.4 0", "arrive - - 1.2.3.4 65536 0", "issue 01 2 1.2.3.4 5",
+    "issue +1 2 1.2.3.4 5", "issue 1 2 +1.2.3.4 5", "issue 1 2 001.2.3.4 5", "issue 1 2 1.2.3.4.5 5", "issue 1 2 0.0.0.00 5",
+    "issue 1 2 " + "AB" * 16 + " 5", "arrive - - 1.2.3.4 +1 0", "arrive - - 1.2.3.4 080 0", "k 00 1", "k +0 1", "k -0 1", "k \u0661 1",
+    "take a room 0600", "accept ", " accept", "accept\t", "accept\0", "accept\r", "\r", "Accept", "\ufeffaccept", "take \u00e9",
+    "accept\x0baccept", "accept\x85", "accept\u2028accept", "k 1 " + "9" * 5000, " " * 5000, "",
 ]
+NO_TEXTS = [
+    b"\xff", b"accept \xc3", b"# \xff", b"#\xc3(", b"take \xed\xa0\x80", b"take \xf4\x90\x80\x80", b"take \xc0\x80", b"\x80accept",
+    b"\xfe\xff\0a\0c", b"insert \xe9 00",
+]
+LONG_LINES = [(b"#", 0), (b"#", 9), (b"foo ", 0), (b"foo ", 1), (b"foo ", 2), (b"foo ", 3), (b"\xff", 0), (b"\xff", 5_000_000), (b" ", 1)]
 
 
 class Script:
@@ -41,6 +51,7 @@ class Script:
         self.now = self.pick(0, 1000 * SECOND, 1_700_000_000 * SECOND, LAST_CLOCK - 100 * SECOND)
         self.weights = self.pick([30, 40, 15, 8, 10, 1, 4], [5, 5, 2, 2, 80, 1, 4])
         self.names_used = self.pick(1, 3, len(NAMES))
+        self.ends = self.pick([b"\n"], [b"\r\n"], [b"\n", b"\r\n"])
 
     def pick(self, *of):
         return self.random.choice(of)
@@ -109,7 +120,15 @@ class Script:
             return self.pick("accept", "refuse", "ignore")
         if kind == "store":
             return self.store_call()
-        return self.pick("k 1000 10", "k 0 0", "k 4294967295 1") if kind == "k" else self.pick(*NO_CALLS)
+        return self.pick("k 1000 10", "k 0 0", "k 4294967295 1") if kind == "k" else self.no_call()
+
+    def no_call(self):
+        if self.chance(0.005):
+            begun, past = self.pick(*LONG_LINES)
+            return begun + self.pick(b"x", b" ", b"\xff", b"\r") * (LONGEST_LINE + past - len(begun))
+        if self.chance(0.1):
+            return self.random.randbytes(self.random.randrange(9)).replace(b"\n", b"") + b"\xff"
+        return self.pick(*NO_CALLS, *NO_TEXTS)
 
     def store_call(self):
         if self.chance(0.05):
@@ -139,15 +158,24 @@ class Script:
         yield f"gate {self.retry} {self.validation}"
         yield "store " + self.store()
 
+    def line(self, said):
+        """A line with an end, and without it. A return before the end is a part of it."""
+        line = said.encode() if isinstance(said, str) else said
+        self.lines.append(line + self.pick(*self.ends))
+        return next(link_model.lines_of([self.lines[-1]]))
+
     def __iter__(self):
-        for line in self.head():
-            self.lines.append(line)
-            yield line
+        for said in self.head():
+            yield self.line(said)
         for _ in range(self.calls):
-            self.lines.append(self.call())
-            yield self.lines[-1]
+            yield self.line(self.call())
             if self.answer.startswith("token "):
                 self.tokens.append(self.answer[6:])
+
+    def text(self):
+        """All lines, the last one with an end or without."""
+        *before, last = self.lines
+        return b"".join(before) + self.pick(last, *link_model.lines_of([last]))
 
     def answers(self):
         for self.answer in link_model.answers(self):
@@ -156,6 +184,8 @@ class Script:
 
 def kind_of(answer):
     words = answer.split()
+    if words[0] == "error":
+        return " ".join(["error", *words[2:]])
     return " ".join(words[:2]) if words[0] in ("validated", "unvalidated", "rejected", "refused") else words[0]
 
 
@@ -164,10 +194,10 @@ def main(first, last, calls):
     for seed in range(first, last + 1):
         script = Script(seed, calls)
         wanted = list(script.answers())
-        text = "\n".join(script.lines) + "\n"
-        ran = subprocess.run([PROGRAM], input=text, capture_output=True, text=True)
-        if ran.returncode or ran.stdout.splitlines() != wanted:
-            pathlib.Path("difference.txt").write_text(text)
+        text = script.text()
+        ran = subprocess.run([PROGRAM], input=text, capture_output=True, check=False)
+        if ran.returncode or ran.stdout.decode().splitlines() != wanted:
+            pathlib.Path("difference.txt").write_bytes(text)
             print(f"seed {seed}: the answers differ")
             return 1
         kinds.update(map(kind_of, wanted))

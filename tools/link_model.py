@@ -8,6 +8,7 @@ It shares no code with the part. AES-CCM is that of the package `cryptography` (
 import hashlib
 import hmac
 import math
+import re
 import sys
 
 SECOND = 1_000_000_000
@@ -15,6 +16,7 @@ LAST_CLOCK = 4_294_967_295_999_999_999
 LONGEST_LIFETIME = 1_073_741_824 * SECOND
 MOST = 4096
 MOST_PLACES = 1_048_576
+LONGEST_LINE = 4_194_304
 
 
 class Refused(Exception):
@@ -337,6 +339,13 @@ def shown(data):
     return data.hex() or "-"
 
 
+def plain(word, bits, what):
+    """A number in decimal, without a sign and without a needless zero."""
+    if not re.fullmatch("0|[1-9][0-9]{0,19}", word) or int(word) >> bits:
+        raise Bad(what)
+    return int(word)
+
+
 class Words:
     def __init__(self, line):
         self.words = line.split(" ")
@@ -351,11 +360,7 @@ class Words:
             raise Bad("a word too many")
 
     def number(self, bits, what="not a number"):
-        word = self.next()
-        digits = word[1:] if word.startswith("+") else word
-        if not digits or not all(c in "0123456789" for c in digits) or int(digits) >> bits:
-            raise Bad(what)
-        return int(digits)
+        return plain(self.next(), bits, what)
 
     def unhex(self, word, what="not in hex"):
         if len(word) % 2 or not all(c in "0123456789abcdef" for c in word):
@@ -380,10 +385,9 @@ class Words:
         word = self.next()
         if "." in word:
             parts = word.split(".")
-            octets = [int(p.removeprefix("+")) if p.removeprefix("+").isascii() and p.removeprefix("+").isdigit() else 256 for p in parts]
-            if len(parts) != 4 or max(octets) > 255:
+            if len(parts) != 4:
                 raise Bad("not an IP")
-            return bytes(octets)
+            return bytes(plain(part, 8, "not an IP") for part in parts)
         data = self.unhex(word, "not an IP")
         if len(data) != 16:
             raise Bad("not an IP")
@@ -504,22 +508,32 @@ class Session:
         return self.spend(ends[command])
 
 
+def text_of(line):
+    if len(line) > LONGEST_LINE:
+        raise Bad("a line too long")
+    try:
+        return line.decode()
+    except UnicodeDecodeError:
+        raise Bad("not text") from None
+
+
 def answers(lines):
-    """Yields the answer to each line that gets one."""
+    """Yields the answer to each line that gets one. Lines are bytes, without their ends."""
     heads, made, session = [read_scheme, read_log, read_gate, read_store], [], None
     for number, line in enumerate(lines, 1):
-        if not line or line.startswith("#"):
+        if not line or line.startswith(b"#"):
             continue
         try:
+            words = Words(text_of(line))
             if session is None:
-                make = heads[len(made)](Words(line))
+                make = heads[len(made)](words)
                 part, told = make(made)
                 made.append(part)
                 yield told
                 if len(made) == 4:
                     session = Session(made[2], made[3])
             else:
-                yield session.run(Words(line))
+                yield session.run(words)
         except Bad as bad:
             yield f"error {number} {bad}"
         except Refused as refused:
@@ -528,6 +542,12 @@ def answers(lines):
                 return
 
 
+def lines_of(data):
+    """The lines of bytes that end in LF or CRLF; the last one may have no end."""
+    for line in data:
+        yield line[:-2] if line.endswith(b"\r\n") else line.removesuffix(b"\n")
+
+
 if __name__ == "__main__":
-    for answer in answers(sys.stdin.read().splitlines()):
-        print(answer)
+    for answer in answers(lines_of(sys.stdin.buffer)):
+        print(answer, flush=True)

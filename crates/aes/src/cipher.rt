@@ -65,9 +65,9 @@ pub struct Aes256 {
 }
 
 impl Aes256 {
-    // Expands a key.
+    // Expands a key. Nothing but the round keys is kept.
     pub fn new(key: &[u8; 32]) -> Aes256
-        ensures { result.round_keys ≡ key_expansion key.now }
+        ensures { result ≡ record { round_keys = key_expansion key.now } }
     {
         Aes256 {
             round_keys: expand(key),

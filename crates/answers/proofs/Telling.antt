@@ -1,10 +1,14 @@
 -- A number tells its answer: the answer is found again by the number.
-use Rattle.std.proofs.Common.{◌≡◌, ℕ, ◌≤◌, cond, nat_eq, ◌⊎◌, Some, None, Option, sym, refl, ap, ◌∙◌, inl, inr, ⊎_elim, arith}
+use Rattle.std.proofs.Common.{◌≡◌, ℕ, cond, nat_eq, ◌⊎◌, Some, None, Option, sym, refl, ap, ◌∙◌, inl, inr, ⊎_elim}
 use Rattle.answers.specs.declared.Refusal.{Refusal}
 use Rattle.answers.specs.declared.Refusal.TheVariants as refusal
+use Rattle.answers.specs.declared.FilterCause.{FilterCause}
+use Rattle.answers.specs.declared.FilterCause.TheVariants as filter_cause
+use Rattle.answers.specs.declared.LogCause.{LogCause}
+use Rattle.answers.specs.declared.LogCause.TheVariants as log_cause
 use Rattle.answers.specs.declared.Cause.{Cause}
 use Rattle.answers.specs.declared.Cause.TheVariants as cause
-use Rattle.answers.specs.Numbers.{refusal_number, cause_number, NumbersTell}
+use Rattle.answers.specs.Numbers.{refusal_number, filter_cause_number, log_cause_number, cause_number, NumbersTell}
 
 -- the answer that stands first in a list of numbered answers under this number
 data Listed (X : Type 0) : Type 0 where
@@ -26,31 +30,52 @@ causes =
     (entry 20 cause.EmptyToken (entry 21 cause.Unopened (entry 23 cause.OtherIp (entry 24 cause.Expired
     (entry 31 cause.OtherAddress (entry 32 cause.RetryExpired none)))))))))
 
-refusal_found : (a : Refusal) → (find refusals (refusal_number a) ≡ Some a) × ((1 ≤ refusal_number a) × (refusal_number a ≤ 8))
-refusal_found refusal.SmallBuffer = (refl, (omega arith, omega arith))
-refusal_found refusal.LongConnectionId = (refl, (omega arith, omega arith))
-refusal_found refusal.LateClock = (refl, (omega arith, omega arith))
-refusal_found refusal.LongLifetime = (refl, (omega arith, omega arith))
-refusal_found refusal.HashCount = (refl, (omega arith, omega arith))
-refusal_found refusal.LongEntry = (refl, (omega arith, omega arith))
-refusal_found refusal.Capacity = (refl, (omega arith, omega arith))
-refusal_found refusal.AlreadyRetried = (refl, (omega arith, omega arith))
+abbrev log_causes : Listed LogCause
+log_causes = entry 11 log_cause.ZeroLifetime (entry 12 log_cause.BeforePeriod (entry 13 log_cause.Held (entry 14 log_cause.Full none)))
 
-cause_found : (a : Cause) → ((find causes (cause_number a) ≡ Some a) ⊎ (cause_number a ≡ 22)) × (9 ≤ cause_number a)
-cause_found cause.ZeroLifetime = (inl refl, omega arith)
-cause_found cause.BeforePeriod = (inl refl, omega arith)
-cause_found cause.Held = (inl refl, omega arith)
-cause_found cause.Full = (inl refl, omega arith)
-cause_found cause.EmptyToken = (inl refl, omega arith)
-cause_found cause.Unopened = (inl refl, omega arith)
-cause_found (cause.Undecodable f) = (inr refl, omega arith)
-cause_found cause.OtherIp = (inl refl, omega arith)
-cause_found cause.Expired = (inl refl, omega arith)
-cause_found cause.OtherAddress = (inl refl, omega arith)
-cause_found cause.RetryExpired = (inl refl, omega arith)
+abbrev filter_causes : Listed FilterCause
+filter_causes = entry 13 filter_cause.Held (entry 14 filter_cause.Full none)
+
+refusal_found : (a : Refusal) → find refusals (refusal_number a) ≡ Some a
+refusal_found refusal.SmallBuffer = refl
+refusal_found refusal.LongConnectionId = refl
+refusal_found refusal.LateClock = refl
+refusal_found refusal.LongLifetime = refl
+refusal_found refusal.HashCount = refl
+refusal_found refusal.LongEntry = refl
+refusal_found refusal.Capacity = refl
+refusal_found refusal.AlreadyRetried = refl
+
+log_cause_found : (a : LogCause) → find log_causes (log_cause_number a) ≡ Some a
+log_cause_found log_cause.ZeroLifetime = refl
+log_cause_found log_cause.BeforePeriod = refl
+log_cause_found log_cause.Held = refl
+log_cause_found log_cause.Full = refl
+
+filter_cause_found : (a : FilterCause) → find filter_causes (filter_cause_number a) ≡ Some a
+filter_cause_found filter_cause.Held = refl
+filter_cause_found filter_cause.Full = refl
+
+-- a cause's number is no refusal's
+cause_found : (a : Cause) → ((find causes (cause_number a) ≡ Some a) ⊎ (cause_number a ≡ 22)) × (find refusals (cause_number a) ≡ None)
+cause_found cause.ZeroLifetime = (inl refl, refl)
+cause_found cause.BeforePeriod = (inl refl, refl)
+cause_found cause.Held = (inl refl, refl)
+cause_found cause.Full = (inl refl, refl)
+cause_found cause.EmptyToken = (inl refl, refl)
+cause_found cause.Unopened = (inl refl, refl)
+cause_found (cause.Undecodable f) = (inr refl, refl)
+cause_found cause.OtherIp = (inl refl, refl)
+cause_found cause.Expired = (inl refl, refl)
+cause_found cause.OtherAddress = (inl refl, refl)
+cause_found cause.RetryExpired = (inl refl, refl)
 
 same_some : {X : Type 0} (a b : X) → Some a ≡ Some b → a ≡ b
 same_some a b h = cc
+
+-- an answer that is found by its number is told by it
+told : {X : Type 0} (xs : Listed X) (number : X → ℕ) (found : (a : X) → find xs (number a) ≡ Some a) (a b : X) → number a ≡ number b → a ≡ b
+told xs number found a b e = same_some a b (sym (found a) ∙ ap (find xs) e ∙ found b)
 
 same_cause : (a b : Cause) → cause_number a ≡ cause_number b → (a ≡ b) ⊎ (cause_number a ≡ 22)
 same_cause a b e =
@@ -61,8 +86,9 @@ same_cause a b e =
 
 pub numbers_tell : NumbersTell
 numbers_tell = record {
-  refusals = λ a b e. same_some a b (sym (refusal_found a).0 ∙ ap (find refusals) e ∙ (refusal_found b).0);
+  refusals = told refusals refusal_number refusal_found;
+  filter_causes = told filter_causes filter_cause_number filter_cause_found;
+  log_causes = told log_causes log_cause_number log_cause_found;
   causes = same_cause;
-  low = λ a. (refusal_found a).1;
-  high = λ b. (cause_found b).1;
+  apart = λ a b e. let x : ◌≡◌ {A = Option Refusal} (Some a) None = sym (refusal_found a) ∙ ap (find refusals) e ∙ (cause_found b).1 in cc;
 }

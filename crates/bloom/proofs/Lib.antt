@@ -1,4 +1,3 @@
-pub mod OneBit
 pub mod Positions
 pub mod Doubling
-pub mod Blooming
+pub mod Going

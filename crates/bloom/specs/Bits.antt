@@ -1,16 +1,17 @@
--- Bits in words of 64, and the positions that a fingerprint has among m bits.
+-- Bits in words, and the positions that a fingerprint has among m bits.
 use Rattle.std.specs.Prelude.{ℕ, zero, suc, ◌+◌, ◌-◌, ◌/◌, ◌%◌, ◌^◌, Bool, true, ◌&&◌, List, [], ◌∷◌, ◌==◌, bit_or, slice_index, slice_set}
+use Rattle.bloom.specs.declared.bits.TheConstants.{WORD_BITS}
 
--- position p is bit p mod 64, the lowest first, of word p ÷ 64
+-- position p is bit p mod WORD_BITS, the lowest first, of word p ÷ WORD_BITS
 abbrev pub bit : List ℕ → ℕ → Bool
-bit ws p = slice_index ws (p / 64) / 2 ^ (p % 64) % 2 == 1
+bit ws p = slice_index ws (p / WORD_BITS) / 2 ^ (p % WORD_BITS) % 2 == 1
 
 unfoldable pub set_bit : List ℕ → ℕ → List ℕ
-set_bit ws p = slice_set ws (p / 64) (bit_or (slice_index ws (p / 64)) (2 ^ (p % 64)))
+set_bit ws p = slice_set ws (p / WORD_BITS) (bit_or (slice_index ws (p / WORD_BITS)) (2 ^ (p % WORD_BITS)))
 
 -- the first position of a fingerprint, and the step to each next one
 abbrev pub step : ℕ → ℕ → ℕ
-step m f = 1 + f / 4294967296 % (m - 1)
+step m f = 1 + f / 2 ^ 32 % (m - 1)
 
 unfoldable pub position : ℕ → ℕ → ℕ → ℕ
 position m f zero = f % m

@@ -1,6 +1,6 @@
 -- What a Bloom filter means.
 use Rattle.std.specs.Prelude.{ℕ, List}
-use Rattle.answers.specs.declared.Cause.TheVariants.{Held}
+use Rattle.answers.specs.declared.FilterCause.TheVariants.{Held}
 use Rattle.filter.specs.Filter.{Meaning}
 use Rattle.bloom.specs.Bits.{all_set}
 

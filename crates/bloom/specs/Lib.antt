@@ -3,3 +3,7 @@ pub mod Bloom
 pub mod Sizes
 pub mod HashCount
 pub mod Means
+pub mod OneBit
+pub mod BitLaws
+pub mod BloomLaws
+pub mod Marks

@@ -3,8 +3,8 @@ ghost use Rattle.std.specs.Iterator.{at_most};
 ghost use Rattle.std.specs.List.{fold, list_all};
 ghost use Rattle.bloom.specs.Bits.{step as step_of, bit, set_bit, ahead};
 
-// A position has a word and a bit in it.
-const WORD: u64 = 64;
+/// How many bits a word has: a position is a word and a bit in it.
+pub(crate) const WORD_BITS: u64 = 64;
 
 // Positions of a fingerprint that are still to come.
 #[derive(Drop)]
@@ -37,7 +37,7 @@ impl Positions {
 impl Iterator for Positions {
     type Item = u64;
 
-    ghost next_gives = { λ s r t. (t.bits ≡ s.bits) × MatchOption r (ahead s.bits s.step s.at s.left ≡ []) (λ at. (at < s.bits) × (ahead s.bits s.step s.at s.left ≡ at ∷ ahead t.bits t.step t.at t.left)) };
+    ghost next_gives = { λ s r t. (t.bits ≡ s.bits) × MatchOption r ((ahead s.bits s.step s.at s.left ≡ []) × (t ≡ s)) (λ at. (at < s.bits) × (ahead s.bits s.step s.at s.left ≡ at ∷ ahead t.bits t.step t.at t.left)) };
 
     ghost remaining = { λ s. at_most s.left };
 
@@ -67,24 +67,24 @@ fn step(bits: u64, f: u64) -> u64
 }
 
 fn test_bit(words: &[u64], at: u64) -> bool
-    requires { at < 64 * length words.now }
+    requires { at < WORD_BITS * length words.now }
     ensures { result ≡ bit words.now at }
 {
-    (words[(at / WORD) as usize] >> (at % WORD)) % 2 == 1
+    (words[(at / WORD_BITS) as usize] >> (at % WORD_BITS)) % 2 == 1
 }
 
 fn set_bit(words: &mut [u64], at: u64)
-    requires { at < 64 * length words.old }
+    requires { at < WORD_BITS * length words.old }
     ensures { words.new ≡ set_bit words.old at }
 {
-    let word = (at / WORD) as usize;
-    words[word] |= 1 << (at % WORD);
+    let word = (at / WORD_BITS) as usize;
+    words[word] |= 1 << (at % WORD_BITS);
 }
 
 // Whether the bits at all these positions are set. A loop, as a closure for `all` could not show that a position is below
 // the number of bits.
 pub fn all_set(words: &[u64], positions: Positions) -> bool
-    requires { positions.bits ≤ 64 * length words.now }
+    requires { positions.bits ≤ WORD_BITS * length words.now }
     ensures { result ≡ list_all (bit words.now) (ahead positions.bits positions.step positions.at positions.left) }
 {
     for at in positions {
@@ -97,7 +97,7 @@ pub fn all_set(words: &[u64], positions: Positions) -> bool
 
 // Sets the bits at all these positions.
 pub fn set_all(words: &mut [u64], positions: Positions)
-    requires { positions.bits ≤ 64 * length words.old }
+    requires { positions.bits ≤ WORD_BITS * length words.old }
     ensures { words.new ≡ fold set_bit words.old (ahead positions.bits positions.step positions.at positions.left) }
 {
     for at in positions {

@@ -1,6 +1,6 @@
 use super::*;
 use crate::hash_counts::HASH_COUNTS;
-use answers::{Cause, Refusal};
+use answers::{FilterCause, Refusal};
 use filter::{ExactSet, Filter, ListingFilter, Places, TurningFilter};
 use std::alloc::Global;
 use std::process::Abort;
@@ -26,7 +26,7 @@ fn bits_of(rt: &impl Abort, heap: Global, f: u64) -> Result<Option<u64>, Fail> {
         return Ok(None);
     };
     assert_eq!(rt; bloom.record(f), Ok(()));
-    assert_eq!(rt; bloom.record(f), Err(Cause::Held));
+    assert_eq!(rt; bloom.record(f), Err(FilterCause::Held));
     Ok(bloom.words.first().copied())
 }
 
@@ -59,15 +59,15 @@ fn refusals(rt: HostRuntime) -> Result<(), Fail> {
         return Err(Fail::new("no hash positions"));
     };
     assert_eq!(rt; back.refusal, Refusal::HashCount);
-    let Err(back) = BloomFilter::new(MAX_BUDGET + 1, 64, back.back) else {
+    let Err(back) = BloomFilter::new(MAX_BUDGET + 1, MAX_HASHES, back.back) else {
         return Err(Fail::new("a budget too large"));
     };
     assert_eq!(rt; back.refusal, Refusal::Capacity);
-    let Err(back) = BloomFilter::new(MAX_BUDGET, 64, back.back) else {
+    let Err(back) = BloomFilter::new(MAX_BUDGET, MAX_HASHES, back.back) else {
         return Err(Fail::new("too few words"));
     };
     assert_eq!(rt; back.refusal, Refusal::Capacity);
-    assert!(rt; BloomFilter::new(128, 64, back.back).is_ok());
+    assert!(rt; BloomFilter::new(128, MAX_HASHES, back.back).is_ok());
     Ok(())
 }
 
@@ -81,10 +81,10 @@ fn an_exact_set(rt: HostRuntime) -> Result<(), Fail> {
         return Err(Fail::new("a set of two"));
     };
     assert_eq!(rt; set.record(7), Ok(()));
-    assert_eq!(rt; set.record(7), Err(Cause::Held));
+    assert_eq!(rt; set.record(7), Err(FilterCause::Held));
     assert_eq!(rt; set.record(u64::MAX), Ok(()));
-    assert_eq!(rt; set.record(7), Err(Cause::Held));
-    assert_eq!(rt; set.record(8), Err(Cause::Full));
+    assert_eq!(rt; set.record(7), Err(FilterCause::Held));
+    assert_eq!(rt; set.record(8), Err(FilterCause::Full));
     assert_eq!(rt; set.tell(1), Some(u64::MAX));
     set.empty();
     assert_eq!(rt; set.sure(), 2);
@@ -105,12 +105,12 @@ fn going_over(rt: HostRuntime) -> Result<(), Fail> {
     for f in 1..4 {
         assert_eq!(rt; filter.record(f), Ok(()));
     }
-    assert_eq!(rt; filter.record(2), Err(Cause::Held));
+    assert_eq!(rt; filter.record(2), Err(FilterCause::Held));
     assert_eq!(rt; filter.told(), 3);
     assert_eq!(rt; filter.record(4), Ok(()));
     assert_eq!(rt; filter.told(), 0);
     for f in 1..5 {
-        assert_eq!(rt; filter.record(f), Err(Cause::Held));
+        assert_eq!(rt; filter.record(f), Err(FilterCause::Held));
     }
     filter.empty();
     assert_eq!(rt; filter.record(2), Ok(()));

@@ -9,7 +9,7 @@ use std::alloc::{AllocError, Global};
 use std::env;
 use std::time::Instant;
 use token_memory_cache::{NameEntry, Text, TokenMemoryCache};
-use token_store::{MAX_STORED, TokenStore};
+use token_store::{MAX_STORED_LEN, TokenStore};
 
 const ROUNDS: u32 = 10;
 
@@ -76,7 +76,7 @@ fn round(
 ) -> anyhow::Result<Costs>
     requires { (0 < names) × (names ≤ 1024) }
 {
-    let mut out = [0; MAX_STORED];
+    let mut out = [0; MAX_STORED_LEN];
     for call in 0..names {
         unrefused(cache.insert(unit(units, call, names)?, &token(call)))?;
     }
@@ -108,12 +108,9 @@ fn measure(rt: &HostRuntime, names: u32) -> anyhow::Result<()>
     }
     let mut name_memory = vec![in heap; Record::new(NameEntry::new()); names as usize]?;
     let mut token_memory = vec![in heap; Record::new(Text::new()); 2 * names as usize]?;
-    let mut cache = unrefused(TokenMemoryCache::new(
-        names,
-        2,
-        &mut name_memory,
-        &mut token_memory,
-    ))?;
+    let Ok(mut cache) = TokenMemoryCache::new(names, 2, &mut name_memory, &mut token_memory) else {
+        return Err(anyhow!("refused"));
+    };
     let mut least = round(rt, &mut cache, &units, names)?;
     for _ in 0..ROUNDS {
         least = least.least(round(rt, &mut cache, &units, names)?);

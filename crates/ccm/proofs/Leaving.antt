@@ -73,12 +73,12 @@ module _ (was : List ℕ) (room : 96 ≤ length was) where
   enough : nat_lt (length was) 96 ≡ false
   enough = le-ltb (length was) 96 room
 
-  pub sealed-left : (image : List ℕ → List ℕ) (content out out' : List ℕ) (len : ℕ) → len ≤ 64 → len + 16 ≤ length out → content ≡ take len was
-      → out' ≡ fronted (image content) out → Seals image len was (keyless was) out out' (Ok (len + 16))
-  sealed-left image content out out' len few long e after =
+  pub sealed-left : (image : List ℕ → List ℕ) (content out out' : List ℕ) (len end : ℕ) → end ≡ len + 16 → len ≤ 64 → len + 16 ≤ length out → content ≡ take len was
+      → out' ≡ fronted (image content) out → Seals image len was (keyless was) out out' (Ok end)
+  sealed-left image content out out' len end ends few long e after =
       let s = or_from (nat_lt 64 len) (nat_lt (length was) 96 || nat_lt (length out) (len + 16)) (le-ltb 64 len few) (or_from _ _ enough (le-ltb (length out) (len + 16) long)) in
       record {
-        answer = sym (cond-false _ _ _ s);
+        answer = ap Ok ends ∙ sym (cond-false _ _ _ s);
         after = after ∙ ap (λ (x : List ℕ). fronted (image x) out) e;
         kept = λ f. no f;
         past = keyless-past was room;

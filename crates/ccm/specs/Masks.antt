@@ -1,11 +1,16 @@
 -- A mask is its own inverse.
-use Rattle.std.specs.Prelude.{◌≡◌, ℕ, ◌-◌, ◌*◌, ◌<◌, min, List, ◌++◌, length, take, drop, replicate, bit_xor, slice_index, refl}
+use Rattle.std.specs.Prelude.{◌≡◌, ℕ, ◌+◌, ◌-◌, ◌*◌, ◌/◌, ◌%◌, ◌<◌, min, List, ◌++◌, length, take, drop, replicate, bit_xor, slice_index, refl}
 use Rattle.std.proofs.Common.{sym, ap, ap₂, ◌∙◌, zero-add, arith}
 use Rattle.std.specs.Int.Bits.{xor_assoc, xor_self, xor_zero_r}
 use borrow.Rule.Slice.PartMut.{post_of}
 use Rattle.std.proofs.lemmas.List.{ext_get_or, drop-replicate, length-take, length-drop, take_min}
 use Rattle.std.proofs.lemmas.List.FromFn.{length-map-range_with_len, get_or-map-range_with_len}
-use Rattle.ccm.specs.Mode.{Cipher, part_of, content_block, xored, tag_of, stream_at, mask_at, masked}
+use Rattle.std.proofs.lemmas.Nat.{xor_lt}
+use Rattle.std.proofs.ByRecursion.{All-get_or, All-from_get_or}
+use Rattle.wire.specs.Numbers.{Bytes}
+use Rattle.aes.specs.Cipher.{cipher}
+use Rattle.aes.proofs.Blocks.{blocks}
+use Rattle.ccm.specs.Mode.{Cipher, counter_block, part_of, content_block, xored, tag_of, stream_at, mask_at, masked}
 
 pub length-masked : (E : Cipher) (m : List ℕ) → length (masked E m) ≡ length m
 unfolding masked
@@ -24,6 +29,16 @@ masked_twice E m =
     ext_get_or 0 (masked E (masked E m)) m n (λ i h.
     let l : i < length m = omega (arith, n) in
     masked-at E (masked E m) i (omega (arith, length-masked E m)) ∙ ap (λ (x : ℕ). bit_xor x (stream_at E i)) (masked-at E m i l) ∙ twice (slice_index m i) (stream_at E i))
+
+-- under AES, bytes are masked to bytes
+pub masked-bytes : (w m : List ℕ) → Bytes m → Bytes (masked (cipher w) m)
+unfolding masked
+masked-bytes w m h =
+    All-from_get_or (λ z. z < 256) (masked (cipher w) m) 0 (λ i l.
+    let n : i < length m = omega (arith, length-masked (cipher w) m) in
+    let s : slice_index m i < 256 = All-get_or (λ z. z < 256) m i 0 n h in
+    let b : stream_at (cipher w) i < 256 = (blocks w (counter_block (i / 16 + 1))).bytes (i % 16) in
+    rw (masked-at (cipher w) m i n) (xor_lt 8 (slice_index m i) (stream_at (cipher w) i) (omega arith) (omega arith)))
 
 pub length_tag : (E : Cipher) (m : List ℕ) → length (tag_of E m) ≡ 16
 unfolding tag_of xored

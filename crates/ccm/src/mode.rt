@@ -5,6 +5,7 @@ ghost use Rattle.aes.specs.Cipher.{cipher};
 ghost use Rattle.ccm.specs.Mode.{headed as headed_of, content_block, xored, mac as mac_of, tag_of, stream_at, masked};
 
 use aes::Aes256;
+use sealing::{MAX_CONTENT_LEN, TAG_LEN};
 use std::array;
 
 const BLOCK: usize = 16;
@@ -18,7 +19,7 @@ const COUNTER_FLAGS: u8 = 2;
 fn headed(flags: u8, n: usize) -> [u8; 16]
     ensures { result ≡ headed_of flags n }
 {
-    let mut block = [0; 16];
+    let mut block = [0; BLOCK];
     block[0] = flags;
     block[13..].copy_from_slice(&n.to_be_bytes()[5..]);
     block
@@ -29,7 +30,7 @@ fn content_block(part: &[u8]) -> [u8; 16]
     ensures { result ≡ content_block part.now 0 }
 {
     let len = part.len().min(BLOCK);
-    let mut block = [0; 16];
+    let mut block = [0; BLOCK];
     block[0..len].copy_from_slice(&part[..len]);
     block
 }
@@ -53,7 +54,7 @@ fn mac(aes: &Aes256, content: &[u8]) -> [u8; 16]
     )
 }
 
-pub(crate) fn tag(aes: &Aes256, content: &[u8]) -> [u8; 16]
+pub(crate) fn tag(aes: &Aes256, content: &[u8]) -> [u8; TAG_LEN]
     ensures { result ≡ tag_of (cipher aes.now.round_keys) content.now }
 {
     xor(
@@ -63,11 +64,11 @@ pub(crate) fn tag(aes: &Aes256, content: &[u8]) -> [u8; 16]
 }
 
 // So many blocks of the key stream.
-fn key_stream(aes: &Aes256, blocks: usize) -> [u8; 64]
+fn key_stream(aes: &Aes256, blocks: usize) -> [u8; MAX_CONTENT_LEN]
     requires { blocks ≤ 4 }
     ensures { (i : ℕ) → i < 16 * blocks → slice_index result i ≡ stream_at (cipher aes.now.round_keys) i }
 {
-    let mut stream = [0; 64];
+    let mut stream = [0; MAX_CONTENT_LEN];
     // Counted, since the number itself is enciphered; what is written through `as_chunks_mut` no proof knows.
     for n in 0..blocks {
         let block = aes.encrypt_block(headed(COUNTER_FLAGS, n + 1));
@@ -78,7 +79,7 @@ fn key_stream(aes: &Aes256, blocks: usize) -> [u8; 64]
 
 // Writes the bytes, masked by the key stream, to the front of `out`. What was masked so is unmasked so.
 pub(crate) fn mask(aes: &Aes256, bytes: &[u8], out: &mut [u8])
-    requires few { length bytes.now ≤ 64 }
+    requires few { length bytes.now ≤ MAX_CONTENT_LEN }
     requires room { length bytes.now ≤ length out.old }
     ensures { out.new ≡ fronted (masked (cipher aes.now.round_keys) bytes.now) out.old }
 {

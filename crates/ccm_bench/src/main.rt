@@ -5,7 +5,7 @@ ghost use Rattle.std.specs.Prelude.{◌≤◌};
 use aes::Aes256;
 use anyhow::Context;
 use ccm::CcmScheme;
-use sealing::{SealingScheme, WORKING};
+use sealing::{SealingScheme, WORKING_LEN};
 use sha256::HmacKey;
 use std::env;
 use std::time::Instant;
@@ -54,7 +54,7 @@ fn seal(scheme: &CcmScheme, len: usize, working: &mut [u8], out: &mut [u8]) -> a
     let mut nonce = [7; 16];
     for _ in 0..CALLS {
         scheme
-            .seal(&nonce, len, working, out)
+            .seal(&nonce, len, out, working)
             .ok()
             .context("a content was not sealed")?;
         nonce = front(out);
@@ -104,11 +104,11 @@ fn measure_scheme(rt: &HostRuntime, len: usize) -> anyhow::Result<()>
     requires { len ≤ 64 }
 {
     let scheme = CcmScheme::new(&[6; 32]);
-    let mut working = [8; WORKING];
+    let mut working = [8; WORKING_LEN];
     let mut out = [0; 80];
     let mut first = [0; 80];
     scheme
-        .seal(&[7; 16], len, &mut working, &mut first)
+        .seal(&[7; 16], len, &mut first, &mut working)
         .ok()
         .context("a content was not sealed")?;
     let sealing = least_of(rt, CALLS, || seal(&scheme, len, &mut working, &mut out))?;

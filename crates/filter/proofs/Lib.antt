@@ -1,3 +1,5 @@
 pub mod Members
 pub mod Walks
 pub mod Pours
+pub mod Going
+pub mod TurningGoes

@@ -1,18 +1,22 @@
 -- What a filter means, and what recording and emptying do to that.
 use Rattle.std.specs.Prelude.{◌≡◌, ℕ, ◌+◌, ◌-◌, ◌<◌, Bool, true, false, if◌then◌else◌, ◌||◌, List, length, is_ok, Ok, Err, Result, ◌==◌}
-use Rattle.answers.specs.declared.Cause.{Cause}
-use Rattle.answers.specs.declared.Cause.TheVariants.{Held, Full}
+use Rattle.answers.specs.declared.FilterCause.{FilterCause}
+use Rattle.answers.specs.declared.FilterCause.TheVariants.{Held, Full}
 use Rattle.filter.specs.Lists.{member}
 
 -- which fingerprints it refuses, and by which cause; how many further ones are sure; and how many are, once emptied
 pub record Meaning : Type 0 where
   pub refuses : ℕ → Bool
-  pub cause : ℕ → Cause
+  pub cause : ℕ → FilterCause
   pub sure : ℕ
   pub count : ℕ
 
+-- what a call of record is answered
+abbrev pub Answer : Type 0
+Answer = Result (Unit {0}) FilterCause
+
 -- what it answers to a fingerprint
-abbrev pub reply : Meaning → ℕ → Result (Unit {0}) Cause
+abbrev pub reply : Meaning → ℕ → Answer
 reply m f = if m.refuses f then Err (m.cause f) else Ok tt
 
 -- nothing of the meaning was altered
@@ -33,7 +37,7 @@ pub record Recorded (f : ℕ) (m m' : Meaning) : Type 0 where
   pub counts : m'.count ≡ m.count
 
 -- a call of record: refused exactly for a refused fingerprint
-pub record Records (f : ℕ) (m m' : Meaning) (r : Result (Unit {0}) Cause) : Type 0 where
+pub record Records (f : ℕ) (m m' : Meaning) (r : Answer) : Type 0 where
   pub answer : r ≡ reply m f
   pub same : is_ok r ≡ false → Same m m'
   pub recorded : is_ok r ≡ true → Recorded f m m'

@@ -4,3 +4,6 @@ pub mod Indexed
 pub mod Memory
 pub mod Turning
 pub mod Sets
+pub mod SetLaws
+pub mod TurningLaws
+pub mod Histories

@@ -1,10 +1,9 @@
 -- A filter that begins as a listing one and goes over to another.
-use Rattle.std.specs.Prelude.{◌≡◌, ℕ, ◌-◌, true, false, List, [], ◌∷◌, ◌++◌, Ok, Result}
-use Rattle.answers.specs.declared.Cause.{Cause}
+use Rattle.std.specs.Prelude.{◌≡◌, ℕ, ◌-◌, true, false, List, [], ◌∷◌, ◌++◌, Ok}
 use Rattle.filter.specs.declared.turning.Form.{Form}
 use Rattle.filter.specs.declared.turning.Form.TheVariants.{Listing, Over}
 use Rattle.filter.specs.declared.turning.TurningFilter.{TurningFilter}
-use Rattle.filter.specs.Filter.{Meaning, Records, Emptied}
+use Rattle.filter.specs.Filter.{Meaning, Answer}
 use Rattle.filter.specs.Lists.{member}
 
 -- what it means in each form: while it lists, what the set means, with one place kept back; gone over, what the other
@@ -24,23 +23,26 @@ in_list Over xs = []
 abbrev pub telling : {S B : Type 0} → (S → List ℕ) → TurningFilter S B → List ℕ
 telling l t = in_list t.form (l t.set)
 
--- fingerprints that were recorded one after the other, whatever was answered
-abbrev pub Poured : List ℕ → Meaning → Meaning → Type 0
-Poured [] m m' = m' ≡ m
-Poured (f ∷ fs) m m'' = (m' : Meaning) × ((r : Result (Unit {0}) Cause) × Records f m m' r) × Poured fs m' m''
+-- fingerprints that were recorded one after the other, whatever was answered, by a filter with the account R of a recording
+abbrev pub Poured : {B : Type 0} → (B → ℕ → Answer → B → Type 0) → List ℕ → B → B → Type 0
+Poured R [] b b' = b' ≡ b
+Poured {B} R (f ∷ fs) b b'' = (b' : B) × ((r : Answer) × R b f r b') × Poured R fs b' b''
 
--- a call of record, by the form it is in: gone over, the other filter records; listing, with one sure place left and a
--- new fingerprint, it goes over: the other filter is emptied and records each that was listed, in order, and the new one,
--- and it accepts; otherwise the set records
-pub data Turns {S B : Type 0} (s : S → Meaning) (l : S → List ℕ) (b : B → Meaning) (f : ℕ) (t t' : TurningFilter S B) (r : Result (Unit {0}) Cause) : Type 0 where
-  over : t.form ≡ Over → t'.form ≡ Over → t'.set ≡ t.set → Records f (b t.other) (b t'.other) r → Turns s l b f t t' r
-  goes : t.form ≡ Listing → (s t.set).sure ≡ 1 → member f (l t.set) ≡ false → t'.form ≡ Over → t'.set ≡ t.set → r ≡ Ok tt
-      → (m : Meaning) → Emptied (b t.other) m → Poured (l t.set ++ f ∷ []) m (b t'.other) → Turns s l b f t t' r
-  lists : t.form ≡ Listing → ((s t.set).sure ≡ 1 → member f (l t.set) ≡ true) → t'.form ≡ Listing → t'.other ≡ t.other
-      → Records f (s t.set) (s t'.set) r → Turns s l b f t t' r
+-- over a set (what it means, what it lists, its account of a recording) and another filter (its accounts of a recording and
+-- of an emptying)
+module _ {S B : Type 0} (m : S → Meaning) (l : S → List ℕ) (R : S → ℕ → Answer → S → Type 0) (Q : B → ℕ → Answer → B → Type 0) (E : B → B → Type 0) where
+  -- a call of record, by the form it is in: gone over, the other filter records; listing, with one sure place left and a new
+  -- fingerprint, it goes over: the other filter is emptied and records each that was listed, in order, and the new one, and
+  -- it accepts; otherwise the set records
+  pub data Turns (t : TurningFilter S B) (f : ℕ) (r : Answer) (t' : TurningFilter S B) : Type 0 where
+    over : t.form ≡ Over → t'.form ≡ Over → t'.set ≡ t.set → Q t.other f r t'.other → Turns t f r t'
+    goes : t.form ≡ Listing → (m t.set).sure ≡ 1 → member f (l t.set) ≡ false → t'.form ≡ Over → t'.set ≡ t.set → r ≡ Ok tt
+        → (b : B) → E t.other b → Poured Q (l t.set ++ f ∷ []) b t'.other → Turns t f r t'
+    lists : t.form ≡ Listing → ((m t.set).sure ≡ 1 → member f (l t.set) ≡ true) → t'.form ≡ Listing → t'.other ≡ t.other
+        → R t.set f r t'.set → Turns t f r t'
 
--- a call of empty: the set is emptied, and it lists again
-pub record Returns {S B : Type 0} (s : S → Meaning) (t t' : TurningFilter S B) : Type 0 where
+-- a call of empty: the set is emptied, by its account E of that, and it lists again
+pub record Returns {S B : Type 0} (E : S → S → Type 0) (t t' : TurningFilter S B) : Type 0 where
   pub form : t'.form ≡ Listing
-  pub set : Emptied (s t.set) (s t'.set)
+  pub set : E t.set t'.set
   pub other : t'.other ≡ t.other

@@ -1,6 +1,7 @@
-ghost use Rattle.std.specs.Prelude.{◌≡◌, ℕ, ◌+◌, ◌*◌, ◌<◌, ◌≤◌, true, ◌&&◌, List, [], ◌∷◌, ◌++◌, length, is_ok, IfOk, if◌then◌else◌, vec_len, vec_capacity, MatchResult, nat_le, nat_lt};
+ghost use Rattle.std.specs.Prelude.{◌≡◌, ℕ, ◌+◌, ◌*◌, ◌^◌, ◌<◌, ◌≤◌, true, ◌&&◌, List, [], ◌∷◌, ◌++◌, length, is_ok, IfOk, if◌then◌else◌, vec_len, vec_capacity, MatchResult, nat_le, nat_lt};
 ghost use Rattle.answers.specs.declared.Refusal.TheVariants.{Capacity};
-ghost use Rattle.filter.specs.Memory.{room_of};
+ghost use Rattle.filter.specs.Memory.{room_of, Buckets};
+ghost use Rattle.filter.specs.declared.exact.TheConstants.{HEADS_PER_PLACE};
 ghost use Rattle.filter.specs.Lists.{member, distinct};
 ghost use Rattle.filter.specs.Indexed.{bucket as bucket_of, Headed, Chained};
 
@@ -10,7 +11,11 @@ use crate::memory::filled;
 use answers::{Refusal, Refused};
 use std::alloc::{AllocError, Global};
 
-// Memory for a set: each place takes one element of `held` and of `links`, and four of `heads`.
+/// How many bucket heads a place of a set takes.
+pub const HEADS_PER_PLACE: u32 = 4;
+
+/// Memory for a set, by its capacities: each place takes one element of `held`, one of `links` and four of `heads`, so 28
+/// bytes. What stands in it is of no account.
 #[derive(Drop)]
 pub struct Places {
     pub held: Vec<u64>,
@@ -18,8 +23,9 @@ pub struct Places {
     pub heads: Vec<u32>,
 }
 
-// A set of at most `capacity` fingerprints, in the order of recording. An index leads to them: the head of a bucket is
-// its last place, and each place links to the one before it in its bucket; places count from 1, and 0 ends a chain.
+/// A set of at most `capacity` fingerprints, in the order of recording. Its sure count is its capacity, which is at least 1.
+// An index leads to them: the head of a bucket is its last place, and each place links to the one before it in its bucket;
+// places count from 1, and 0 ends a chain.
 // Memory is fixed: fingerprint and link in one struct would take 16 bytes a place, not 12, and an `Option` in place of
 // the 0 twice its 4.
 #[derive(Drop)]
@@ -34,38 +40,45 @@ pub struct ExactSet {
     ghost apart: { distinct held.items ≡ true },
     ghost linked: { length links.items ≡ length held.items },
     ghost spare: { capacity ≤ vec_capacity links },
+    ghost wide: { capacity * HEADS_PER_PLACE ≤ vec_capacity heads },
     ghost buckets: { 0 < length heads.items },
     ghost headed: { Headed held.items heads.items },
     ghost chained: { Chained held.items heads.items links.items },
 }
 
 impl Places {
-    // Memory for a set of so many.
+    /// Memory for a set of `count` places, and no more.
     pub fn allocate(heap: Global, count: u32) -> Result<Places, AllocError>
         ensures enough { IfOk result (λ p. room_of p ≡ count) }
-        ensures sizes { IfOk result (λ p. (vec_capacity p.held ≡ count) × (vec_capacity p.links ≡ count) × (vec_capacity p.heads ≡ count * 4)) }
+        ensures blank { IfOk result (λ p. (p.held.items ≡ []) × (p.links.items ≡ []) × (p.heads.items ≡ [])) }
+        ensures sizes { IfOk result (λ p. (vec_capacity p.held ≡ count) × (vec_capacity p.links ≡ count) × (vec_capacity p.heads ≡ count * HEADS_PER_PLACE)) }
     {
         let held = Vec::with_capacity(heap, count as usize)?;
         let links = Vec::with_capacity(heap, count as usize)?;
-        let heads = Vec::with_capacity(heap, count as usize * 4)?;
+        let heads = Vec::with_capacity(heap, count as usize * HEADS_PER_PLACE as usize)?;
         Ok(Places { held, links, heads })
     }
 
-    // For how many fingerprints there is a place.
+    /// For how many fingerprints there is a place.
     pub fn room(&self) -> usize
         ensures { result ≡ room_of self.now }
     {
         self.held
             .capacity()
             .min(self.links.capacity())
-            .min(self.heads.capacity() / 4)
+            .min(self.heads.capacity() / HEADS_PER_PLACE as usize)
     }
 }
 
 impl ExactSet {
-    // An empty set of `capacity` places, at least one, in memory that has as many.
+    ghost use Rattle.filter.specs.Sets.{HeldBy};
+
+    /// An empty set of `capacity` places, in memory that has as many or more. Refused by 7 for a capacity of 0, or where the
+    /// memory has fewer places; it then comes back as it was.
     pub fn new(capacity: u32, memory: Places) -> Result<ExactSet, Refused<Places>>
         ensures answer { is_ok result ≡ (nat_lt 0 capacity && nat_le capacity (room_of memory)) }
+        ensures memory { IfOk result (HeldBy memory) }
+        ensures index { IfOk result (λ s. Buckets capacity (vec_len s.heads)) }
         ensures cases { MatchResult result (λ s. (s.held.items ≡ []) × (s.capacity ≡ capacity)) (λ e. e ≡ record { refusal = Capacity; back = memory }) }
     {
         if capacity == 0 || memory.room() < capacity as usize {
@@ -88,6 +101,21 @@ impl ExactSet {
             heads,
             capacity,
         })
+    }
+
+    /// Takes the set apart. Its memory comes back as it stands, with what the set held in it: a set of as many places can be
+    /// made in it again.
+    pub fn into_places(self) -> Places
+        ensures parts { result ≡ record { held = self.held; links = self.links; heads = self.heads } }
+        ensures room { self.capacity ≤ room_of result }
+    {
+        let ExactSet {
+            held,
+            links,
+            heads,
+            ..
+        } = self;
+        Places { held, links, heads }
     }
 
     // The bucket of a fingerprint.
@@ -117,8 +145,7 @@ impl ExactSet {
 // How many buckets a set has: the least power of 2 that is at least twice its capacity.
 fn buckets(capacity: u32) -> usize
     requires { 0 < capacity }
-    ensures least { capacity ≤ result }
-    ensures most { result < capacity * 4 }
+    ensures { Buckets capacity result }
 {
     (capacity as usize * 2).next_power_of_two()
 }

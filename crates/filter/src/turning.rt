@@ -1,21 +1,24 @@
-ghost use Rattle.answers.specs.Sameness.{TellsSameness};
-ghost use Rattle.std.specs.Prelude.{◌≡◌, ℕ, true, MatchOption};
-ghost use Rattle.filter.specs.Filter.{Records, Emptied};
-ghost use Rattle.filter.specs.Lists.{member};
+ghost use Rattle.answers.specs.Sameness.{TellsSameness, ClonesAreTheSame, ClonesNeverFail};
+ghost use Rattle.std.specs.Prelude.{◌≡◌, MatchOption};
 ghost use Rattle.filter.specs.Turning.{turned, telling, Poured, Turns, Returns};
+ghost use Rattle.filter.specs.TurningLaws.{turns_mean, returns_mean};
 ghost use Rattle.std.proofs.Common.{rules};
 
 use crate::{Filter, ListingFilter};
-use answers::Cause;
+use answers::FilterCause;
 
+/// Which of its two filters a turning filter records in.
 #[derive(Clone, Copy, PartialEq, Eq, Debug)]
 pub enum Form {
+    /// The set, which lists.
     Listing,
+    /// The other filter: it has gone over.
     Over,
 }
 
-// Begins as a set that lists, and goes over to another filter once the set has but one sure place left. The form stands
-// beside both, as neither gives its memory up: emptied, the filter lists again.
+/// A set that lists, with another filter to go over to: it does so at a new fingerprint once the set has but one sure place
+/// left, and records in the other one all that the set listed. Emptied, it lists again. Its sure count is one below the set's.
+// The form stands beside both, as neither gives its memory up: emptied, the filter lists again.
 #[derive(Drop)]
 pub struct TurningFilter<S, B> {
     set: S,
@@ -25,7 +28,7 @@ pub struct TurningFilter<S, B> {
 
 // Records each fingerprint that the set tells in the other filter.
 fn pour<S: ListingFilter, B: Filter>(set: &S, other: &mut B)
-    ensures { Poured (S.listed set.now) (B.meaning other.old) (B.meaning other.new) }
+    ensures { Poured B.records (S.listed set.now) other.old other.new }
 {
     // By index: for a `for` over `(0..set.told()).filter_map(|i| set.tell(i))` in a generic function no proof is made, since
     // the check's own definition `iterator-loop-f` has the wrong type.
@@ -37,9 +40,10 @@ fn pour<S: ListingFilter, B: Filter>(set: &S, other: &mut B)
 }
 
 impl<S: ListingFilter, B: Filter> TurningFilter<S, B> {
-    // Over a set, which is emptied, and the filter to go over to. The sure count is one below the set's.
+    /// A filter that lists, over a set, which is emptied, and the filter to go over to, which is left as it is: it is emptied as
+    /// the turning filter goes over. A set of the sure count 1 or 0 leaves the sure count 0.
     pub fn new(mut set: S, other: B) -> TurningFilter<S, B>
-        ensures { Returns S.meaning (record { set = set; other = other; form = Form.Listing }) result }
+        ensures { Returns S.empties (record { set = set; other = other; form = Form.Listing }) result }
     {
         set.empty();
         TurningFilter {
@@ -47,6 +51,14 @@ impl<S: ListingFilter, B: Filter> TurningFilter<S, B> {
             other,
             form: Form::Listing,
         }
+    }
+
+    /// Takes the filter apart: the set and the other filter come back as they stand, whichever of the two recorded last.
+    pub fn into_parts(self) -> (S, B)
+        ensures { result ≡ (self.set, self.other) }
+    {
+        let TurningFilter { set, other, .. } = self;
+        (set, other)
     }
 
     // The set, while it lists.
@@ -60,14 +72,18 @@ impl<S: ListingFilter, B: Filter> TurningFilter<S, B> {
     }
 }
 
-// `means` is the trait's clause, written out: beside a clause of a method's own it is not derived.
 impl<S: ListingFilter, B: Filter> Filter for TurningFilter<S, B> {
     ghost meaning = { turned S.meaning B.meaning };
 
-    fn record(&mut self, f: u64) -> Result<(), Cause>
-        ensures means { Records f (turned S.meaning B.meaning self.old) (turned S.meaning B.meaning self.new) result }
-        ensures turns { Turns S.meaning S.listed B.meaning f self.old self.new result }
-    {
+    ghost records = { Turns S.meaning S.listed S.records B.records B.empties };
+
+    ghost empties = { Returns S.empties };
+
+    ghost recorded = { turns_mean S.meaning S.listed S.records B.meaning B.records B.empties S.recorded B.recorded S.just };
+
+    ghost emptied = { returns_mean S.meaning S.empties B.meaning S.emptied };
+
+    fn record(&mut self, f: u64) -> Result<(), FilterCause> {
         match (self.form, self.set.sure()) {
             (Form::Over, _) => self.other.record(f),
             (Form::Listing, 1) if !self.set.holds(f) => {
@@ -81,10 +97,7 @@ impl<S: ListingFilter, B: Filter> Filter for TurningFilter<S, B> {
         }
     }
 
-    fn empty(&mut self)
-        ensures means { Emptied (turned S.meaning B.meaning self.old) (turned S.meaning B.meaning self.new) }
-        ensures returns { Returns S.meaning self.old self.new }
-    {
+    fn empty(&mut self) {
         self.set.empty();
         self.form = Form::Listing;
     }
@@ -114,7 +127,9 @@ impl<S: ListingFilter, B: Filter> ListingFilter for TurningFilter<S, B> {
     }
 }
 
-// Two forms are equal just if they are the same.
+/// Two forms are equal just if they are the same, and a clone of one is the same.
 pub fn equal_forms_are_the_same()
-    ensures { TellsSameness (⟦<Form as PartialEq>⟧.eq) }
+    ensures equal { TellsSameness (⟦<Form as PartialEq>⟧.eq) }
+    ensures cloned { ClonesAreTheSame (⟦<Form as Clone>⟧.is_clone) }
+    ensures come { ClonesNeverFail (⟦<Form as Clone>⟧.is_infallible) }
 {}

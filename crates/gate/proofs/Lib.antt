@@ -4,3 +4,5 @@ pub mod Judging
 pub mod Asking
 pub mod Onceness
 pub mod Welcoming
+pub mod Machine
+pub mod Sameness

@@ -1,5 +1,5 @@
 -- From the parts of an arrival to one step of a succession.
-use Rattle.std.proofs.Common.{◌≡◌, ℕ, Bool, true, false, cond, nat_lt, List, ◌∷◌, length, Ok, Err, Result, sym, refl, ap, ◌∙◌, subst}
+use Rattle.std.proofs.Common.{◌≡◌, ℕ, Bool, true, false, cond, nat_lt, List, [], ◌∷◌, length, Ok, Err, Result, sym, refl, ap, ◌∙◌, subst}
 use Rattle.answers.specs.declared.Refusal.{Refusal}
 use Rattle.answers.specs.declared.Refusal.TheVariants.{SmallBuffer, LongConnectionId, LateClock}
 use Rattle.wire.specs.declared.types.SocketAddr.{SocketAddr}
@@ -11,9 +11,10 @@ use Rattle.token_log.specs.Log.{Query, Answer}
 use Rattle.gate.specs.declared.Gate.{Gate}
 use Rattle.gate.specs.declared.verdict.Verdict.{Verdict}
 use Rattle.gate.specs.Calls.{Judged, Terms, Arrival, arrival_of, admitted, weigh, judge}
-use Rattle.gate.specs.Successions.{Call, Follows, Step, Succession, terms, Adds, Unmoved}
+use Rattle.answers.specs.Successions.{Succession, Adds}
+use Rattle.answers.specs.Successions.Succession.{new, then as on}
+use Rattle.gate.specs.Successions.{Call, Follows, Moves, terms, Unmoved, Step, Leads}
 use Rattle.gate.specs.Successions.Call.{arriving}
-use Rattle.gate.specs.Successions.Succession.{then as followed}
 
 -- an id that is admitted is the destination id
 passed : (a b e : Bool) (m n k : Refusal) (d id : List ℕ)
@@ -37,25 +38,31 @@ module _ (t : Terms) (x : Arrival) where
 
 module _ {L : Type 0} (R : L → Query → Answer → L → Type 0) (t : Terms) where
   pub step_refused : (x : Arrival) (refusal : Refusal) (r : Result Verdict Refusal) (s : L) → Err refusal ≡ admitted x.working x.destination x.clock → r ≡ Err refusal
-      → Step R t s (arriving x r) s
+      → Moves R t s (arriving x r) s
   step_refused x refusal r s h e =
       let P : Result Judged Refusal → Type 0 = λ j. Follows R t x.destination j r s s in subst P (sym (judge_refused t x refusal h)) (e, refl)
 
   pub step-admitted : (token d id : List ℕ) (address : SocketAddr) (clock : ℕ) (working : List ℕ) (j : Judged) (o : Verdict) (s s' : L) → id ≡ d
       → Ok id ≡ admitted (length working) d clock → j ≡ weigh t (arrival_of token id address clock working) (says t.opened token) → Follows R t id (Ok j) (Ok o) s s'
-      → Step R t s (arriving (arrival_of token d address clock working) (Ok o)) s'
+      → Moves R t s (arriving (arrival_of token d address clock working) (Ok o)) s'
   step-admitted token d id address clock working j o s s' e h q w =
-      let P : List ℕ → Type 0 = λ z. Ok id ≡ admitted (length working) z clock → Step R t s (arriving (arrival_of token z address clock working) (Ok o)) s' in
+      let P : List ℕ → Type 0 = λ z. Ok id ≡ admitted (length working) z clock → Moves R t s (arriving (arrival_of token z address clock working) (Ok o)) s' in
       let Q : Result Judged Refusal → Type 0 = λ z. Follows R t id z (Ok o) s s' in
       subst P e (λ k. subst Q (ap Ok q ∙ sym (judge-admitted t (arrival_of token id address clock working) id k)) w) h
 
--- a step that leaves scheme and lifetimes adds to every succession
-module _ {S L : Type 0} (image : S → Image) (opened : S → Opening) (R : L → Query → Answer → L → Type 0) (g g' : Gate S L) (m : Unmoved g g') where
-  same_terms : terms image opened g' ≡ terms image opened g
-  same_terms =
+-- calls on gates
+module _ {S L : Type 0} (image : S → Image) (opened : S → Opening) (R : L → Query → Answer → L → Type 0) where
+  pub same_terms : (g g' : Gate S L) → Unmoved g g' → terms image opened g' ≡ terms image opened g
+  same_terms g g' m =
       ap (λ z. record { image = image z; opened = opened z; retry = g'.retry; validation = g'.validation }) m.scheme
       ∙ ap (λ z. record { image = image g.scheme; opened = opened g.scheme; retry = z; validation = g'.validation }) m.retry
       ∙ ap (λ z. record { image = image g.scheme; opened = opened g.scheme; retry = g.retry; validation = z }) m.validation
 
-  pub adds : (x : Call) → Step R (terms image opened g) g.log x g'.log → Adds image opened R x g g'
-  adds x w s xs l = let P : Terms → Type 0 = λ t. Succession R t s (x ∷ xs) g'.log in subst P (sym same_terms) (followed l w)
+  pub adds : (g g' : Gate S L) (x : Call) → Step image opened R g x g' → Adds (Step image opened R) x g g'
+  adds g g' x v start xs w = on w v
+
+  -- the moves of the log, under the terms of the last gate
+  pub moves : (start g : Gate S L) (xs : List Call) → Leads image opened R start xs g → Succession (Moves R (terms image opened g)) start.log xs g.log
+  moves start g [] new = new
+  moves start g (x ∷ xs) (on {s' = g'} w v) =
+      let P : Terms → Type 0 = λ t. Succession (Moves R t) start.log (x ∷ xs) g.log in subst P (sym (same_terms g' g v.0)) (on (moves start g' xs w) v.1)

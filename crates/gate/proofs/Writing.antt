@@ -1,13 +1,11 @@
 -- From the steps of a call that writes a token to what it leaves.
-use Rattle.std.proofs.Common.{◌≡◌, ℕ, ◌<◌, ◌≤◌, Bool, true, false, cond, ◌||◌, nat_lt, List, length, take, drop, is_ok, IfOk, Ok, Err, Result, sym, refl, ap, ◌∙◌, arith}
+use Rattle.std.proofs.Common.{◌≡◌, ℕ, ◌<◌, ◌≤◌, Bool, true, false, cond, ◌||◌, nat_lt, List, length, take, drop, Ok, Err, Result, sym, refl, ap, ◌∙◌, arith}
 use Rattle.std.proofs.lemmas.List.{take_at}
-use Rattle.std.proofs.lemmas.Bool.{le-ltb, ltb-false, or_from, cond-true, cond-false}
-use Rattle.std.proofs.lemmas.Result.{IfOk-weaker}
+use Rattle.std.proofs.lemmas.Bool.{ltb-false}
 use Rattle.answers.specs.declared.Refusal.{Refusal}
-use Rattle.answers.specs.Buffers.{fronted}
 use Rattle.sealing.specs.declared.token.Nonce.{Nonce}
 use Rattle.answers.specs.declared.Refused.{Refused}
-use Rattle.sealing.specs.Tokens.{wiped, Wrote}
+use Rattle.sealing.specs.Tokens.{wiped, TokenWritten}
 use Rattle.answers.specs.declared.Refusal.TheVariants.{SmallBuffer, LateClock, AlreadyRetried}
 use Rattle.wire.proofs.Faithful.{apart, same_ok, then_ok}
 use Rattle.wire.specs.declared.types.TokenPayload.TheVariants.{Retry, Validation}
@@ -21,28 +19,14 @@ pub refused : {E : Type 0} (back : Refusal → E) (token : Result (List ℕ) Ref
     → Writes back token working working out out (Err (back refusal))
 refused back token refusal working out e = rw e (record { answer = refl; within = tt; after = refl; blank = refl })
 
--- with room enough, writing is not refused
-module _ (token working working' out out' : List ℕ) (nonce : Nonce) (r : Result ℕ (Refused Nonce)) (w : Wrote token working working' out out' nonce r)
-    (room : 81 ≤ length out) (enough : 96 ≤ length working) where
-  pub unrefused : r ≡ Ok (length token)
-  unrefused = w.answer ∙ cond-false _ _ _ (or_from _ _ (le-ltb (length out) 81 room) (le-ltb (length working) 96 enough))
-
-  pub within : IfOk r (λ n. n ≤ length out)
-  within = IfOk-weaker r (λ n. n ≤ 81) (λ n. n ≤ length out) (λ n h. omega arith) w.within
-
-  pub buffer : out' ≡ fronted token out
-  buffer = w.after ∙ cond-true _ _ _ (ap is_ok unrefused)
-
-  pub blanked : working' ≡ wiped working
-  blanked = w.blank ∙ cond-true _ _ _ (ap is_ok unrefused)
-
-pub written : {E : Type 0} (back : Refusal → E) (token : Result (List ℕ) Refusal) (bytes working working' out out' : List ℕ) (r : Result ℕ E) → token ≡ Ok bytes
-    → r ≡ Ok (length bytes) → IfOk r (λ n. n ≤ length out) → out' ≡ fronted bytes out → working' ≡ wiped working → Writes back token working working' out out' r
-written back token bytes working working' out out' r e a b f g =
+-- a token was written, and the working bytes are wiped
+pub written : {E : Type 0} (back : Refusal → E) (token : Result (List ℕ) Refusal) (bytes working working' out out' : List ℕ) (n : ℕ) → token ≡ Ok bytes
+    → TokenWritten bytes out out' n → 81 ≤ length out → working' ≡ wiped working → Writes back token working working' out out' (Ok n)
+written back token bytes working working' out out' n e w room g =
     record {
-      answer = a ∙ ap (answer_to back) (sym e);
-      within = b;
-      after = f ∙ ap (λ z. buffer_after z out) (sym e);
+      answer = ap Ok w.len ∙ ap (answer_to back) (sym e);
+      within = omega (arith, w.bound);
+      after = w.after ∙ ap (λ z. buffer_after z out) (sym e);
       blank = g ∙ ap (λ z. working_after z working) (sym e);
     }
 

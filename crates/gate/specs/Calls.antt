@@ -4,7 +4,7 @@ use Rattle.answers.specs.declared.Cause.{Cause}
 use Rattle.answers.specs.declared.Cause.TheVariants.{OtherIp, Expired, OtherAddress, RetryExpired}
 use Rattle.answers.specs.declared.Refusal.{Refusal}
 use Rattle.answers.specs.declared.Refusal.TheVariants.{SmallBuffer, LateClock, AlreadyRetried}
-use Rattle.answers.specs.Numbers.{cause_number}
+use Rattle.answers.specs.Numbers.{cause_number, cause_of}
 use Rattle.answers.specs.Buffers.{fronted}
 use Rattle.wire.specs.declared.types.IpAddr.{IpAddr}
 use Rattle.wire.specs.declared.types.SocketAddr.{SocketAddr}
@@ -12,12 +12,15 @@ use Rattle.wire.specs.Fields.{and_then}
 use Rattle.wire.specs.declared.types.TokenPayload.{TokenPayload}
 use Rattle.wire.specs.Content.{same_ip, same_addr, id_from}
 use Rattle.wire.specs.declared.types.TokenPayload.TheVariants.{Retry, Validation}
-use Rattle.wire.specs.Laws.{SoundIp, SoundAddr}
+use Rattle.wire.specs.Laws.{SoundIp, SoundAddr, SoundId}
 use Rattle.sealing.specs.declared.token.Nonce.{Nonce}
 use Rattle.answers.specs.declared.Refused.{Refused}
+use Rattle.sealing.specs.declared.TheConstants.{MAX_TOKEN_LEN, WORKING_LEN}
 use Rattle.sealing.specs.Sealing.{Image, Opening}
 use Rattle.sealing.specs.Tokens.{token_for, low_of, says, wiped}
 use Rattle.token_log.specs.Log.{Answer, expiry}
+use Rattle.gate.specs.declared.checks.TheConstants.{LAST_CLOCK}
+use Rattle.token_log.specs.declared.lifetime.TheConstants.{NANOS_PER_SECOND}
 use Rattle.gate.specs.declared.verdict.Verdict.{Verdict}
 use Rattle.gate.specs.declared.verdict.Verdict.TheVariants.{Validated, Unvalidated, Rejected}
 use Rattle.gate.specs.declared.verdict.Arrived.{Arrived}
@@ -40,12 +43,22 @@ verdict_number (Validated source original) = 0
 verdict_number (Unvalidated cause original) = cause_number cause
 verdict_number (Rejected cause) = cause_number cause
 
+-- its cause, if it has one
+abbrev pub verdict_cause : Verdict → Option Cause
+verdict_cause (Validated source original) = None
+verdict_cause (Unvalidated cause original) = Some cause
+verdict_cause (Rejected cause) = Some cause
+
 -- the slip of an arrival, by its verdict
 abbrev pub owed : SocketAddr → List ℕ → Verdict → Option Slip
 owed a d (Validated (Some source) original) = Some (record { address = a; destination = d; validation = ByRetry })
 owed a d (Validated None original) = Some (record { address = a; destination = d; validation = ByToken })
 owed a d (Unvalidated cause original) = Some (record { address = a; destination = d; validation = Missing })
 owed a d (Rejected cause) = None
+
+-- the whole answer of an arrival with a verdict
+abbrev pub arrived : SocketAddr → List ℕ → Verdict → Arrived
+arrived a d verdict = record { verdict = verdict; slip = owed a d verdict }
 
 -- what an issue brings: a drawn nonce, an IP, a clock reading, and the lengths of both buffers
 pub record Issue : Type 0 where
@@ -78,7 +91,7 @@ arrival_of token destination address clock working =
 
 -- the whole second of a clock reading
 abbrev pub second : ℕ → ℕ
-second clock = clock / 1000000000
+second clock = clock / NANOS_PER_SECOND
 
 -- a token of a second is in date until its expiry, inclusive
 abbrev pub in_date : ℕ → ℕ → ℕ → Bool
@@ -87,8 +100,8 @@ in_date lifetime seconds clock = nat_le clock (expiry lifetime seconds)
 -- the second that a written token is dated by, or the refusal, by the lengths of both buffers and the clock reading
 abbrev pub dated : ℕ → ℕ → ℕ → Result ℕ Refusal
 dated room working clock =
-    if nat_lt room 81 || nat_lt working 96 then Err SmallBuffer
-    else if nat_lt 4294967295999999999 clock then Err LateClock
+    if nat_lt room MAX_TOKEN_LEN || nat_lt working WORKING_LEN then Err SmallBuffer
+    else if nat_lt LAST_CLOCK clock then Err LateClock
     else Ok (second clock)
 
 -- what an issue writes: a validation token for the IP
@@ -109,7 +122,7 @@ is_retried ByRetry = true
 
 -- what the types of the code say of what a retry brings
 abbrev pub FitsRetry : Nonce → Slip → Type 0
-FitsRetry nonce slip = (nonce.low < 18446744073709551616) × SoundAddr slip.address × (length slip.destination ≤ 20)
+FitsRetry nonce slip = (nonce.low < 18446744073709551616) × SoundAddr slip.address × SoundId slip.destination
 
 -- what a retry writes: a retry token for the slip's address, with its destination id as the original id
 unfoldable pub token_retried : Image → Nonce → Slip → ℕ → ℕ → ℕ → Result (List ℕ) Refusal
@@ -149,7 +162,7 @@ pub record Writes {E : Type 0} (back : Refusal → E) (token : Result (List ℕ)
 abbrev pub admitted : ℕ → List ℕ → ℕ → Result (List ℕ) Refusal
 admitted working destination clock =
     if nat_lt working 96 then Err SmallBuffer
-    else and_then (id_from destination) (λ id. if nat_lt 4294967295999999999 clock then Err LateClock else Ok id)
+    else and_then (id_from destination) (λ id. if nat_lt LAST_CLOCK clock then Err LateClock else Ok id)
 
 -- what an arrival alone decides: its verdict, or to ask the log about a low half and an issue time
 pub data Judged : Type 0 where
@@ -161,7 +174,8 @@ abbrev pub judged_by : Weighed → Judged
 judged_by (Settled verdict) = settled verdict
 judged_by (Asks low seconds) = asks low seconds
 
--- by what its token says, each test in its order
+-- by what its token says, each test in its order: a retry token validates the address, or the arrival is rejected (RFC 9000,
+-- section 8.1.2); any other token validates it, if the log agrees, or counts as none (section 8.1.3)
 abbrev pub weigh : Terms → Arrival → Result TokenPayload Cause → Judged
 weigh t x (Err cause) = settled (Unvalidated cause x.destination)
 weigh t x (Ok (Retry address original seconds)) =
@@ -179,7 +193,7 @@ judge t x = and_then (admitted x.working x.destination x.clock) (λ id. Ok (weig
 -- what the log's answer makes of an arrival that asks
 abbrev pub decided : List ℕ → Answer → Verdict
 decided destination (Ok taken) = Validated None destination
-decided destination (Err cause) = Unvalidated cause destination
+decided destination (Err cause) = Unvalidated (cause_of cause) destination
 
 -- the verdict that an arrival was answered with
 abbrev pub told : Result Arrived Refusal → Result Verdict Refusal

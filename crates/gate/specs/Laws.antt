@@ -1,16 +1,17 @@
 -- The laws of a gate, over whole successions of calls.
-use Rattle.std.specs.Prelude.{◌≡◌, ℕ, ◌+◌, ◌<◌, ◌≤◌, Bool, true, false, ◌⊎◌, List, [], ◌∷◌, is_ok, Some, None, Ok, Err, Option, Result, ◌≢◌, if◌then◌else◌}
+use Rattle.std.specs.Prelude.{◌≡◌, ℕ, ◌+◌, ◌<◌, ◌≤◌, Bool, true, false, not, ◌&&◌, List, [], ◌∷◌, ◌++◌, is_ok, Some, None, Ok, Err, Option, Result, ◌≢◌, if◌then◌else◌}
 use Rattle.std.specs.List.{AllByRecursion}
 use Rattle.answers.specs.declared.Cause.{Cause}
 use Rattle.answers.specs.declared.Refusal.{Refusal}
+use Rattle.answers.specs.Successions.{Each, EachFrom, Exists}
 use Rattle.wire.specs.declared.types.TokenPayload.{TokenPayload}
 use Rattle.wire.specs.declared.types.TokenPayload.TheVariants.{Retry, Validation}
 use Rattle.sealing.specs.declared.token.Nonce.{Nonce}
 use Rattle.sealing.specs.Sealing.{Image, Opening}
 use Rattle.sealing.specs.Tokens.{low_of, says}
-use Rattle.filter.specs.Filter.{Meaning}
+use Rattle.filter.specs.Filter.{Meaning, Answer as Reply}
 use Rattle.token_log.specs.declared.two_generations.TwoGenerationLog.{TwoGenerationLog}
-use Rattle.token_log.specs.Log.{Query, Answer, issue, expiry}
+use Rattle.token_log.specs.Log.{Bars, Query, Answer, issue, expiry}
 use Rattle.token_log.specs.Generations.{Logs, Unused}
 use Rattle.gate.specs.declared.slip.Slip.{Slip}
 use Rattle.gate.specs.declared.Gate.{Gate}
@@ -46,15 +47,6 @@ abbrev pub carries : Terms → Call → Option (ℕ × ℕ)
 carries t (issuing x r) = None
 carries t (arriving x r) = carried t.opened x.token
 
--- P of each call and those before it; P of some call
-abbrev pub Each : (Call → List Call → Type 0) → List Call → Type 0
-Each P [] = Unit {0}
-Each P (x ∷ xs) = P x xs × Each P xs
-
-abbrev pub Exists : (Call → Type 0) → List Call → Type 0
-Exists P [] = ⊥
-Exists P (x ∷ xs) = P x ⊎ Exists P xs
-
 -- a call carries a pair, and no honoured one before it carries the same
 pub record Alone (t : Terms) (x : Call) (earlier : List Call) : Type 0 where
   pub pair : (p : ℕ × ℕ) × (carries t x ≡ Some p)
@@ -65,7 +57,13 @@ Once t xs = Each (λ x earlier. honoured x ≡ true → Alone t x earlier) xs
 
 -- whatever the log was before: no two honoured arrivals carry one low half and issue time
 abbrev pub NoTokenIsHonouredTwice : {S L : Type 0} → (S → Image) → (S → Opening) → (L → Query → Answer → L → Type 0) → Gate S L → Type 0
-NoTokenIsHonouredTwice {L = L} image opened R g = (s : L) (xs : List Call) → Leads image opened R s xs g → Once (terms image opened g) xs
+NoTokenIsHonouredTwice {S = S} {L = L} image opened R g = (start : Gate S L) (xs : List Call) → Leads image opened R start xs g → Once (terms image opened g) xs
+
+-- of any two arrivals of a succession that brought the same bytes, not both are honoured
+abbrev pub NoTwoWithOneTokenAreHonoured : {S L : Type 0} → (S → Image) → (S → Opening) → (L → Query → Answer → L → Type 0) → Gate S L → Type 0
+NoTwoWithOneTokenAreHonoured {S = S} {L = L} image opened R g =
+    (start : Gate S L) (newer between older : List Call) (x y : Arrival) (r q : Result Verdict Refusal)
+    → Leads image opened R start (newer ++ (arriving x r ∷ (between ++ (arriving y q ∷ older)))) g → x.token ≡ y.token → (honours r && honours q) ≡ false
 
 -- an arrival that got a verdict, in date, from the IP that an earlier issue wrote its token for
 pub record Due (t : Terms) (i : Issue) (x : Arrival) (r : Result Verdict Refusal) (earlier : List Call) : Type 0 where
@@ -73,6 +71,16 @@ pub record Due (t : Terms) (i : Issue) (x : Arrival) (r : Result Verdict Refusal
   pub issue : Exists (λ y. y ≡ issuing i (Ok x.token)) earlier
   pub ip : i.ip ≡ x.address.ip
   pub date : x.clock ≤ expiry t.validation (second i.clock)
+
+-- such an arrival is honoured just if the log, as it is then, does not bar its low half and second under the validation lifetime
+abbrev pub HonouredUnlessBarred : {S L : Type 0} → (S → Image) → (S → Opening) → (L → Bars) → Gate S L → Call → List Call → Type 0
+HonouredUnlessBarred image opened bars g (issuing x r) earlier = Unit {0}
+HonouredUnlessBarred image opened bars g (arriving x r) earlier =
+    (i : Issue) → Due (terms image opened g) i x r earlier → honours r ≡ not (bars g.log g.validation (low_of x.token) (second i.clock))
+
+abbrev pub AnIssuedTokenIsHonouredUnlessBarred : {S L : Type 0} → (S → Image) → (S → Opening) → (L → Bars) → (L → Query → Answer → L → Type 0) → Gate S L → Type 0
+AnIssuedTokenIsHonouredUnlessBarred {S = S} {L = L} image opened bars R g =
+    (start : Gate S L) (xs : List Call) (w : Leads image opened R start xs g) → EachFrom (HonouredUnlessBarred image opened bars) w
 
 -- honoured, with this low half; with an issue time past this time; how many are honoured
 pub record Takes (t : Terms) (low : ℕ) (y : Call) : Type 0 where
@@ -100,12 +108,19 @@ Met c t (issuing x r) earlier = Unit {0}
 Met c t (arriving x r) earlier =
     (i : Issue) → Due t i x r earlier → Stands c t (low_of x.token) (expiry t.validation (second i.clock)) r earlier
 
--- from an unused log over filters of the sure count c, under a lifetime above zero
-abbrev pub EveryIssuedTokenInDateIsHonoured : {S F : Type 0} → (S → Image) → (S → Opening) → (F → Meaning) → Gate S (TwoGenerationLog F) → Type 0
-EveryIssuedTokenInDateIsHonoured {F = F} image opened m g =
-    (c : ℕ) (s : TwoGenerationLog F) (xs : List Call) → Unused m c s → 0 < g.validation → Leads image opened (Logs m) s xs g → Each (Met c (terms image opened g)) xs
+-- from a gate on whose log was unused, over filters of the sure count c, under a lifetime above zero
+abbrev pub EveryIssuedTokenInDateIsHonoured : {S F : Type 0} → (S → Image) → (S → Opening) → (F → Meaning) → (F → ℕ → Reply → F → Type 0) → (F → F → Type 0)
+    → Gate S (TwoGenerationLog F) → Type 0
+EveryIssuedTokenInDateIsHonoured {S = S} {F = F} image opened m R E g =
+    (c : ℕ) (start : Gate S (TwoGenerationLog F)) (xs : List Call) → Unused m c start.log → 0 < g.validation → Leads image opened (Logs R E) start xs g
+    → Each (Met c (terms image opened g)) xs
 
--- an issued token carries the low half of its nonce and the second of its issue
+-- an issued token says the IP and the second of its issue
+abbrev pub AnIssuedTokenSaysItsIpAndSecond : Terms → Type 0
+AnIssuedTokenSaysItsIpAndSecond t =
+    (x : Issue) (token : List ℕ) → FitsIssue x → token_issued t x ≡ Ok token → says t.opened token ≡ Ok (Validation x.ip (second x.clock))
+
+-- and carries the low half of its nonce and that second
 abbrev pub AnIssuedTokenCarriesItsPair : Terms → Type 0
 AnIssuedTokenCarriesItsPair t =
     (x : Issue) (token : List ℕ) → FitsIssue x → token_issued t x ≡ Ok token → carried t.opened token ≡ Some (x.low, second x.clock)

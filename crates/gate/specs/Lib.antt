@@ -1,3 +1,4 @@
 pub mod Calls
 pub mod Successions
 pub mod Laws
+pub mod Machine

@@ -1,6 +1,7 @@
--- What one call does to a gate, and successions of calls.
-use Rattle.std.specs.Prelude.{◌≡◌, ℕ, List, [], ◌∷◌, Ok, Err, Result}
+-- What one call does to a gate, and successions of calls, the newest first.
+use Rattle.std.specs.Prelude.{◌≡◌, ℕ, List, Ok, Err, Result}
 use Rattle.answers.specs.declared.Refusal.{Refusal}
+use Rattle.answers.specs.Successions.{Succession}
 use Rattle.sealing.specs.Sealing.{Image, Opening}
 use Rattle.token_log.specs.Log.{Query, Answer}
 use Rattle.gate.specs.declared.Gate.{Gate}
@@ -22,29 +23,24 @@ module _ {L : Type 0} (R : L → Query → Answer → L → Type 0) (t : Terms) 
   Follows destination (Ok (asks low seconds)) r s s' =
       (answer : Answer) × R s (record { low = low; issued = seconds; lifetime = t.validation }) answer s' × (r ≡ Ok (decided destination answer))
 
-  abbrev pub Step : L → Call → L → Type 0
-  Step s (issuing x r) s' = FitsIssue x × (r ≡ token_issued t x) × (s' ≡ s)
-  Step s (arriving x r) s' = Follows x.destination (judge t x) r s s'
-
-  -- a succession of calls, the newest first, from the log s on
-  pub data Succession (s : L) : List Call → L → Type 0 where
-    new : Succession s [] s
-    then : {x : Call} {xs : List Call} {s' s'' : L} → Succession s xs s' → Step s' x s'' → Succession s (x ∷ xs) s''
+  abbrev pub Moves : L → Call → L → Type 0
+  Moves s (issuing x r) s' = FitsIssue x × (r ≡ token_issued t x) × (s' ≡ s)
+  Moves s (arriving x r) s' = Follows x.destination (judge t x) r s s'
 
 -- the terms of a gate
 abbrev pub terms : {S L : Type 0} → (S → Image) → (S → Opening) → Gate S L → Terms
 terms image opened g = record { image = image g.scheme; opened = opened g.scheme; retry = g.retry; validation = g.validation }
-
--- the calls xs lead from a gate as it was made, with the log s, to the gate g
-abbrev pub Leads : {S L : Type 0} → (S → Image) → (S → Opening) → (L → Query → Answer → L → Type 0) → L → List Call → Gate S L → Type 0
-Leads image opened R s xs g = Succession R (terms image opened g) s xs g.log
-
--- every succession that leads to g leads with the call x on to g'
-abbrev pub Adds : {S L : Type 0} → (S → Image) → (S → Opening) → (L → Query → Answer → L → Type 0) → Call → Gate S L → Gate S L → Type 0
-Adds {L = L} image opened R x g g' = (s : L) (xs : List Call) → Leads image opened R s xs g → Leads image opened R s (x ∷ xs) g'
 
 -- scheme and lifetimes are as they were
 pub record Unmoved {S L : Type 0} (g g' : Gate S L) : Type 0 where
   pub scheme : g'.scheme ≡ g.scheme
   pub retry : g'.retry ≡ g.retry
   pub validation : g'.validation ≡ g.validation
+
+-- one call on a gate: its log moves so, and nothing else
+abbrev pub Step : {S L : Type 0} → (S → Image) → (S → Opening) → (L → Query → Answer → L → Type 0) → Gate S L → Call → Gate S L → Type 0
+Step image opened R g x g' = Unmoved g g' × Moves R (terms image opened g) g.log x g'.log
+
+-- calls that lead from one gate to another
+abbrev pub Leads : {S L : Type 0} → (S → Image) → (S → Opening) → (L → Query → Answer → L → Type 0) → Gate S L → List Call → Gate S L → Type 0
+Leads image opened R = Succession (Step image opened R)

@@ -1,31 +1,37 @@
-ghost use Rattle.std.specs.Prelude.{◌≡◌, Some};
-ghost use Rattle.gate.specs.Calls.{verdict_number, owed};
+ghost use Rattle.answers.specs.Sameness.{TellsSameness, ClonesAreTheSame, ClonesNeverFail};
+ghost use Rattle.std.specs.Prelude.{◌≡◌, Some, Ok};
+ghost use Rattle.gate.specs.Calls.{verdict_number, verdict_cause, owed};
+ghost use Rattle.gate.specs.Laws.{honours};
 
 use crate::slip::{AddressValidation, Slip};
 use answers::Cause;
 use wire::{ConnectionId, SocketAddr};
 
-// What becomes of an arrival. The original id is the destination id of the client's first packet.
-#[derive(Clone, Copy)]
+/// What becomes of an arrival (RFC 9000, section 8.1). The original id is the destination id of the client's first
+/// packet.
+#[derive(Clone, Copy, PartialEq, Eq, Debug)]
 pub enum Verdict {
-    // the address is the client's: by a retry token, which has the id that the Retry packet was sent from,
-    // or by a validation token, which is thereby honoured
+    // the address is the client's, so that the limit of three times what was received is lifted: by a retry token
+    // (section 8.1.2), with the id that the Retry packet was sent from, or by a validation token
+    // (section 8.1.3), which is thereby honoured
     Validated {
         retry_src_cid: Option<ConnectionId>,
         orig_dst_cid: ConnectionId,
     },
-    // the arrival goes on as if it had brought no token
+    // the arrival goes on as if it had brought no token (section 8.1.3): the host sends a Retry packet, or goes on
+    // within that limit
     Unvalidated {
         cause: Cause,
         orig_dst_cid: ConnectionId,
     },
-    // the packet is to be dropped
+    // by a retry token: as the client takes no second Retry packet, the host closes the connection at once, with
+    // the error INVALID_TOKEN (section 8.1.2)
     Rejected {
         cause: Cause,
     },
 }
 
-// A verdict, and the slip of an arrival that is not rejected.
+/// A verdict, and the slip of an arrival that is not rejected.
 pub struct Arrived {
     pub verdict: Verdict,
     pub slip: Option<Slip>,
@@ -37,6 +43,16 @@ pub struct Arrived {
 pub(crate) enum Weighed {
     Settled(Verdict),
     Asks { low: u64, issued: u32 },
+}
+
+/// Two verdicts are equal just if they are the same, and a clone of one is the same.
+pub fn equal_verdicts_are_the_same()
+    ensures equal { TellsSameness (⟦<Verdict as PartialEq>⟧.eq) }
+    ensures cloned { ClonesAreTheSame (⟦<Verdict as Clone>⟧.is_clone) }
+    ensures come { ClonesNeverFail (⟦<Verdict as Clone>⟧.is_infallible) }
+{
+    wire::equal_values_are_the_same();
+    answers::equal_answers_are_the_same();
 }
 
 impl Weighed {
@@ -68,7 +84,29 @@ impl Weighed {
 }
 
 impl Verdict {
-    // The number of its cause; 0 if validated.
+    /// Why the address is not validated; none where it is.
+    pub fn cause(self) -> Option<Cause>
+        ensures { result ≡ verdict_cause self }
+    {
+        match self {
+            Verdict::Validated { .. } => None,
+            Verdict::Unvalidated { cause, .. } => Some(cause),
+            Verdict::Rejected { cause } => Some(cause),
+        }
+    }
+
+    /// Whether the arrival's token is honoured: it validates the address, and is no retry token.
+    pub fn is_honoured(self) -> bool
+        ensures { result ≡ honours (Ok self) }
+    {
+        match self {
+            Verdict::Validated { retry_src_cid, .. } => retry_src_cid.is_none(),
+            Verdict::Unvalidated { .. } => false,
+            Verdict::Rejected { .. } => false,
+        }
+    }
+
+    /// The number of its cause; 0 if validated.
     pub fn number(self) -> u8
         ensures { result ≡ verdict_number self }
     {

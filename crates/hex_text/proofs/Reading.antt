@@ -1,5 +1,5 @@
 -- A text is read pair by pair.
-use Rattle.std.proofs.Common.{◌≡◌, ℕ, ◌<◌, ◌≤◌, List, [], ◌∷◌, ◌++◌, length, drop, slice_index, Some, None, Option, sym, refl, ap, ◌∙◌, append-nil, arith}
+use Rattle.std.proofs.Common.{◌≡◌, ℕ, ◌≤◌, List, [], ◌∷◌, ◌++◌, ◌==◌, ◌<◌, true, false, is_some, length, drop, slice_index, Some, None, Option, sym, refl, ap, ◌∙◌, append-nil, arith}
 use Rattle.std.proofs.lemmas.List.{append_assoc}
 use Rattle.hex_text.specs.Digits.{digit_of, paired, followed, unhex}
 
@@ -28,13 +28,31 @@ module _ (t xs left : List ℕ) (inv : before xs (unhex left) ≡ unhex t) where
   read_none h p = ap (λ (o : Option ℕ). before xs (followed o (unhex (drop 2 left)))) (sym p) ∙ ap (before xs) (sym (next_pair left h)) ∙ inv
 
 module _ (t xs : List ℕ) where
-  pub read_all : (left : List ℕ) → length left ≡ 0 → before xs (unhex left) ≡ unhex t → Some xs ≡ unhex t
+  pub read_all : (left : List ℕ) → length left < 2 → true ≡ is_some (unhex t) → before xs (unhex left) ≡ unhex t → Some xs ≡ unhex t
   unfolding unhex
-  read_all [] h inv = ap Some (sym (append-nil xs)) ∙ inv
-  read_all (a ∷ left) h inv = absurd (omega arith)
+  read_all [] h s inv = ap Some (sym (append-nil xs)) ∙ inv
+  read_all (a ∷ []) h s inv = let f : true ≡ false = s ∙ ap is_some (sym inv) in let z : ◌≡◌ {A = ℕ} 0 1 = cc in absurd (omega arith)
+  read_all (a ∷ b ∷ left) h s inv = absurd (omega arith)
 
-  pub one_left : (left : List ℕ) → length left < 2 → 0 < length left → before xs (unhex left) ≡ unhex t → None ≡ unhex t
-  unfolding unhex
-  one_left [] h k inv = absurd (omega arith)
-  one_left (a ∷ []) h k inv = inv
-  one_left (a ∷ b ∷ left) h k inv = absurd (omega arith)
+-- whether a text writes bytes: that of what follows a pair of digits; none where two are no such pair, and the empty text does
+paired_some : (p : Option ℕ) (o : Option (List ℕ)) → is_some p ≡ true → is_some o ≡ is_some (followed p o)
+paired_some None o h = let z : ◌≡◌ {A = ℕ} 0 1 = cc in absurd (omega arith)
+paired_some (Some b) None h = refl
+paired_some (Some b) (Some bs) h = refl
+
+paired_none : (p : Option ℕ) (o : Option (List ℕ)) → is_some p ≡ false → false ≡ is_some (followed p o)
+paired_none None o h = refl
+paired_none (Some b) o h = let z : ◌≡◌ {A = ℕ} 0 1 = cc in absurd (omega arith)
+
+module _ (t : List ℕ) (h : 2 ≤ length t) where
+  pub writes_rest : is_some (paired (digit_of (slice_index t 0)) (digit_of (slice_index t 1))) ≡ true → is_some (unhex (drop 2 t)) ≡ is_some (unhex t)
+  writes_rest p = paired_some _ (unhex (drop 2 t)) p ∙ ap is_some (sym (next_pair t h))
+
+  pub writes_none : is_some (paired (digit_of (slice_index t 0)) (digit_of (slice_index t 1))) ≡ false → false ≡ is_some (unhex t)
+  writes_none p = paired_none _ (unhex (drop 2 t)) p ∙ ap is_some (sym (next_pair t h))
+
+pub writes_end : (t : List ℕ) → length t < 2 → (length t == 0) ≡ is_some (unhex t)
+unfolding unhex
+writes_end [] h = refl
+writes_end (a ∷ []) h = refl
+writes_end (a ∷ b ∷ rest) h = absurd (omega arith)

@@ -7,7 +7,9 @@ use answers::Refusal;
 use anyhow::anyhow;
 use hex_text::Hex;
 use periods::run_log;
-use sealing::{BenchScheme, MAX_TOKEN, Nonce, SealingScheme, WORKING, decode_token, encode_token};
+use sealing::{
+    BenchScheme, MAX_TOKEN_LEN, Nonce, SealingScheme, WORKING_LEN, decode_token, encode_token,
+};
 use show::Said;
 use std::alloc::Global;
 use wire::{ConnectionId, IpAddr, SocketAddr, TokenPayload};
@@ -17,8 +19,8 @@ const DAMAGED: usize = 3;
 
 // Opens and decodes a token, and prints what it says, or the cause why it says nothing.
 fn read<S: SealingScheme>(rt: &impl Print, scheme: &S, token: &[u8]) -> anyhow::Result<()> {
-    let mut working = [0; WORKING];
-    match decode_token(scheme, token, &mut working).map_err(refused)? {
+    let mut working = [0; WORKING_LEN];
+    match decode_token(scheme, token, &mut working) {
         Ok(token) => println!(rt; "says {} under low half {}", Said(token.payload), token.low)?,
         Err(cause) => println!(rt; "unvalidated {}", cause.number())?,
     }
@@ -36,11 +38,11 @@ fn there_and_back<S: SealingScheme>(
     payload: &TokenPayload,
     nonce: Nonce,
 ) -> anyhow::Result<()> {
-    let mut working = [0; WORKING];
-    let mut token = [0; MAX_TOKEN];
+    let mut working = [0; WORKING_LEN];
+    let mut token = [0; MAX_TOKEN_LEN];
     let len = payload.encode(&mut working).map_err(refused)?;
     println!(rt; "content {}", Hex(&working[0..len]))?;
-    let len = encode_token(scheme, payload, nonce, &mut working, &mut token).map_err(|back| refused(
+    let len = encode_token(scheme, payload, nonce, &mut token, &mut working).map_err(|back| refused(
         back.refusal,
     ))?;
     println!(rt; "token {} of {len} bytes", Hex(&token[0..len]))?;

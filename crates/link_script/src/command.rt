@@ -1,8 +1,7 @@
 // The calls that a script makes.
 use crate::words::{Bad, Words};
-use sealing::{MAX_TOKEN, WORKING};
-use std::alloc::Global;
-use token_store::MAX_STORED;
+use sealing::{MAX_TOKEN_LEN, WORKING_LEN};
+use token_store::MAX_STORED_LEN;
 use wire::{IpAddr, SocketAddr};
 
 #[derive(Clone, Copy)]
@@ -65,18 +64,18 @@ pub(crate) enum Command<'a> {
 }
 
 // The fields of a struct are read in the order in which it has them, which is that of the words.
-fn read_issue(words: &mut Words<'_, '_>) -> Result<Issue, Bad> {
+fn read_issue(words: &mut Words<'_>) -> Result<Issue, Bad> {
     Ok(Issue {
         low: words.number()?,
         high: words.number()?,
         ip: words.ip()?,
         clock: words.number()?,
-        room: words.length("room", MAX_TOKEN)?,
-        working: words.length("working", WORKING)?,
+        room: words.length("room", MAX_TOKEN_LEN)?,
+        working: words.length("working", WORKING_LEN)?,
     })
 }
 
-fn read_arrive(words: &mut Words<'_, '_>) -> Result<Arrive, Bad> {
+fn read_arrive(words: &mut Words<'_>) -> Result<Arrive, Bad> {
     let token = words.bytes()?;
     let destination = words.bytes()?;
     let address = SocketAddr {
@@ -84,7 +83,7 @@ fn read_arrive(words: &mut Words<'_, '_>) -> Result<Arrive, Bad> {
         port: words.port()?,
     };
     let clock = words.number()?;
-    let working = words.length("working", WORKING)?;
+    let working = words.length("working", WORKING_LEN)?;
     Ok(Arrive {
         token,
         destination,
@@ -94,53 +93,48 @@ fn read_arrive(words: &mut Words<'_, '_>) -> Result<Arrive, Bad> {
     })
 }
 
-fn read_retry(words: &mut Words<'_, '_>) -> Result<Retry, Bad> {
+fn read_retry(words: &mut Words<'_>) -> Result<Retry, Bad> {
     Ok(Retry {
         low: words.number()?,
         high: words.number()?,
         clock: words.number()?,
-        room: words.length("room", MAX_TOKEN)?,
-        working: words.length("working", WORKING)?,
+        room: words.length("room", MAX_TOKEN_LEN)?,
+        working: words.length("working", WORKING_LEN)?,
     })
 }
 
-fn read_insert<'a>(words: &mut Words<'_, 'a>) -> Result<Insert<'a>, Bad> {
+fn read_insert<'a>(words: &mut Words<'a>) -> Result<Insert<'a>, Bad> {
     let name = words.name()?;
     let token = words.bytes()?;
     Ok(Insert { name, token })
 }
 
-fn read_take<'a>(words: &mut Words<'_, 'a>) -> Result<Take<'a>, Bad> {
+fn read_take<'a>(words: &mut Words<'a>) -> Result<Take<'a>, Bad> {
     let name = words.name()?;
-    let room = words.length("room", MAX_STORED)?;
+    let room = words.length("room", MAX_STORED_LEN)?;
     Ok(Take { name, room })
 }
 
-fn read_hash_count<'a>(words: &mut Words<'_, 'a>) -> Result<Command<'a>, Bad> {
+fn read_hash_count<'a>(words: &mut Words<'a>) -> Result<Command<'a>, Bad> {
     let budget = words.number()?;
     let hits = words.number()?;
     Ok(Command::HashCount { budget, hits })
 }
 
-fn read_command<'a>(words: &mut Words<'_, 'a>) -> Result<Command<'a>, Bad> {
+// The call that a line makes.
+pub(crate) fn read_call<'a>(mut words: Words<'a>) -> Result<Command<'a>, Bad> {
     let command = match words.next()? {
-        "issue" => Command::Issue(read_issue(words)?),
-        "arrive" => Command::Arrive(read_arrive(words)?),
-        "retry" => Command::Retry(read_retry(words)?),
+        "issue" => Command::Issue(read_issue(&mut words)?),
+        "arrive" => Command::Arrive(read_arrive(&mut words)?),
+        "retry" => Command::Retry(read_retry(&mut words)?),
         "accept" => Command::Spend(End::Accept),
         "refuse" => Command::Spend(End::Refuse),
         "ignore" => Command::Spend(End::Ignore),
-        "insert" => Command::Insert(read_insert(words)?),
-        "take" => Command::Take(read_take(words)?),
-        "k" => read_hash_count(words)?,
+        "insert" => Command::Insert(read_insert(&mut words)?),
+        "take" => Command::Take(read_take(&mut words)?),
+        "k" => read_hash_count(&mut words)?,
         _ => return Err(Bad::Line("no such command")),
     };
     words.end()?;
     Ok(command)
-}
-
-// The call that a line makes.
-pub(crate) fn read_line<'a>(heap: Global, line: &'a str) -> Result<Command<'a>, Bad> {
-    let words: Vec<&'a str> = line.split(' ').collect(heap)?;
-    read_command(&mut Words::new(heap, &words))
 }

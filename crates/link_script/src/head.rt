@@ -7,13 +7,13 @@ pub(crate) trait Head {
 
     const OTHERWISE: &'static str;
 
-    fn read(words: &mut Words<'_, '_>) -> Result<Self, Bad>
+    fn read(words: &mut Words<'_>) -> Result<Self, Bad>
     where
         Self: Sized;
 }
 
 // Reads a line as this line of the head, and no more.
-pub(crate) fn read_head<H: Head + Drop>(mut words: Words<'_, '_>) -> Result<H, Bad> {
+pub(crate) fn read_head<H: Head + Drop>(mut words: Words<'_>) -> Result<H, Bad> {
     if words.next()? != H::WORD {
         return Err(Bad::Line(H::OTHERWISE));
     }
@@ -33,7 +33,7 @@ impl Head for SchemeHead {
 
     const OTHERWISE: &'static str = "the scheme comes first";
 
-    fn read(words: &mut Words<'_, '_>) -> Result<SchemeHead, Bad> {
+    fn read(words: &mut Words<'_>) -> Result<SchemeHead, Bad> {
         match words.next()? {
             "bench" => Ok(SchemeHead::Bench(words.array()?)),
             "ccm" => Ok(SchemeHead::Ccm(words.array()?)),
@@ -56,7 +56,7 @@ impl Head for LogHead {
 
     const OTHERWISE: &'static str = "the log comes next";
 
-    fn read(words: &mut Words<'_, '_>) -> Result<LogHead, Bad> {
+    fn read(words: &mut Words<'_>) -> Result<LogHead, Bad> {
         let head = match words.next()? {
             "none" => LogHead::None,
             "set" => LogHead::Set {
@@ -91,7 +91,7 @@ impl Head for GateHead {
 
     const OTHERWISE: &'static str = "the gate comes next";
 
-    fn read(words: &mut Words<'_, '_>) -> Result<GateHead, Bad> {
+    fn read(words: &mut Words<'_>) -> Result<GateHead, Bad> {
         Ok(GateHead {
             retry: words.number()?,
             validation: words.number()?,
@@ -110,7 +110,7 @@ impl Head for StoreHead {
 
     const OTHERWISE: &'static str = "the store comes next";
 
-    fn read(words: &mut Words<'_, '_>) -> Result<StoreHead, Bad> {
+    fn read(words: &mut Words<'_>) -> Result<StoreHead, Bad> {
         match words.next()? {
             "none" => Ok(StoreHead::None),
             "cache" => Ok(StoreHead::Cache {

@@ -1,28 +1,22 @@
 #![tactic(auto)]
-// Runs a script of calls from standard input, and prints a line for each answer.
+// Runs a script of calls from standard input, and answers each line before it waits for the next.
 mod answer;
 mod command;
 mod head;
+mod lines;
 mod script;
 mod session;
 mod setup;
 mod words;
 
-use script::{Script, says_something};
+use script::Script;
 use setup::run_script;
-use std::io::Read;
+use std::io::BufReader;
 
 fn read_and_run(rt: &HostRuntime) -> anyhow::Result<()> {
     let heap = rt.alloc();
-    let mut text = String::new(heap);
-    rt.stdin().read_to_string(&mut text)?;
-    let lines: Vec<(usize, &str)> = text
-        .as_str()
-        .lines()
-        .enumerate()
-        .filter(|(_, line)| says_something(line))
-        .collect(heap)?;
-    run_script(rt, &mut Script::new(heap, &lines))
+    let input = BufReader::new(heap, rt.reader())?;
+    run_script(rt, &mut Script::new(heap, input)?)
 }
 
 fn main(rt: HostRuntime) -> anyhow::Result<()> {

@@ -1,37 +1,58 @@
 // Goes through the lines of a script.
-use crate::command::read_line;
+use crate::command::read_call;
 use crate::head::{Head, read_head};
+use crate::lines::{LINE_MEMORY, as_text, read_line, says_something};
 use crate::session::Session;
 use crate::words::{Bad, Words};
 use sealing::SealingScheme;
-use std::alloc::Global;
-use std::{io, slice};
+use std::alloc::{AllocError, Global};
+use std::io;
+use std::io::BufRead;
+use std::ops::Range;
 use token_log::TokenLog;
 use token_store::TokenStore;
 
-// The lines that are left of a script, each with its place, counted from 0, and the heap that is used to read them.
+// What is left of a script: the input, the memory for a line of it, the numbers of the lines to come, from 1, and the heap for
+// what a line says.
 #[derive(Drop)]
-pub(crate) struct Script<'a> {
+pub(crate) struct Script<R> {
     pub(crate) heap: Global,
-    lines: slice::Iter<'a, (usize, &'a str)>,
+    input: R,
+    line: Vec<u8>,
+    numbers: Range<u64>,
 }
 
-// Whether a line says something: it is not empty, and no comment.
-pub(crate) fn says_something(line: &str) -> bool {
-    !line.is_empty() && !line.starts_with('#')
+// Says what is wrong with a line, by its number; the run goes on.
+fn complain(rt: &impl Print, number: u64, bad: Bad) -> io::Result<()> {
+    println!(rt; "error {number} {bad}")
 }
 
-// Says what is wrong with a line, by its number from 1; the run goes on.
-fn complain(rt: &impl Print, at: usize, bad: Bad) -> io::Result<()> {
-    println!(rt; "error {} {bad}", at.saturating_add(1))
-}
-
-impl<'a> Script<'a> {
-    pub(crate) fn new(heap: Global, lines: &'a [(usize, &'a str)]) -> Script<'a> {
-        Script {
+impl<R: BufRead> Script<R> {
+    // Memory for the longest line is asked for once.
+    pub(crate) fn new(heap: Global, input: R) -> Result<Script<R>, AllocError>
+    where
+        R: Drop,
+    {
+        let line = Vec::with_capacity(heap, LINE_MEMORY)?;
+        Ok(Script {
             heap,
-            lines: lines.iter(),
+            input,
+            line,
+            numbers: 1..u64::MAX,
+        })
+    }
+
+    // The next line that says something, with its number.
+    fn next(&mut self) -> io::Result<Option<(u64, Result<&str, Bad>)>> {
+        for number in self.numbers.by_ref() {
+            if !read_line(&mut self.input, &mut self.line)? {
+                return Ok(None);
+            }
+            if says_something(&self.line) {
+                return Ok(Some((number, as_text(&self.line))));
+            }
         }
+        Ok(None)
     }
 
     // The next line of the head; lines that are no such line are passed over.
@@ -39,11 +60,14 @@ impl<'a> Script<'a> {
         &mut self,
         rt: &impl Print,
     ) -> anyhow::Result<Option<H>> {
-        for (at, line) in self.lines.by_ref() {
-            let words: Vec<&str> = line.split(' ').collect(self.heap)?;
-            match read_head::<H>(Words::new(self.heap, &words)) {
+        let heap = self.heap;
+        for _ in 0..u64::MAX {
+            let Some((number, line)) = self.next()? else {
+                return Ok(None);
+            };
+            match line.and_then(|line| read_head::<H>(Words::new(heap, line))) {
                 Ok(head) => return Ok(Some(head)),
-                Err(bad) => complain(rt, *at, bad)?,
+                Err(bad) => complain(rt, number, bad)?,
             }
         }
         Ok(None)
@@ -55,10 +79,14 @@ impl<'a> Script<'a> {
         rt: &impl Print,
         session: &mut Session<S, L, T>,
     ) -> anyhow::Result<()> {
-        for (at, line) in self.lines.by_ref() {
-            match read_line(self.heap, line) {
+        let heap = self.heap;
+        for _ in 0..u64::MAX {
+            let Some((number, line)) = self.next()? else {
+                return Ok(());
+            };
+            match line.and_then(|line| read_call(Words::new(heap, line))) {
                 Ok(command) => session.call(rt, command)?,
-                Err(bad) => complain(rt, *at, bad)?,
+                Err(bad) => complain(rt, number, bad)?,
             }
         }
         Ok(())

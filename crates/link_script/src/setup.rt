@@ -12,9 +12,10 @@ use record_pool::Record;
 use sealing::{BenchScheme, SealingScheme};
 use std::alloc::{AllocError, Global};
 use std::io;
+use std::io::BufRead;
 use token_log::{BloomTokenLog, Lifetime, LogMemory, NoneTokenLog, TokenLog, TwoGenerationLog};
 use token_memory_cache::{
-    MOST_SERVER_NAMES, MOST_TOKENS_PER_SERVER, NameEntry, Text, TokenMemoryCache,
+    MAX_SERVER_NAMES, MAX_TOKENS_PER_SERVER, NameEntry, Text, TokenMemoryCache,
 };
 use token_store::{NoneTokenStore, TokenStore};
 
@@ -60,7 +61,7 @@ impl From<io::Error> for Stop {
 }
 
 // A refusal in the head is told, and ends the run.
-pub(crate) fn run_script(rt: &impl Print, script: &mut Script<'_>) -> anyhow::Result<()> {
+pub(crate) fn run_script(rt: &impl Print, script: &mut Script<impl BufRead>) -> anyhow::Result<()> {
     match with_scheme(rt, script) {
         Ok(()) => Ok(()),
         Err(Stop::Refused(refusal)) => {
@@ -71,7 +72,7 @@ pub(crate) fn run_script(rt: &impl Print, script: &mut Script<'_>) -> anyhow::Re
     }
 }
 
-fn with_scheme(rt: &impl Print, script: &mut Script<'_>) -> Result<(), Stop> {
+fn with_scheme(rt: &impl Print, script: &mut Script<impl BufRead>) -> Result<(), Stop> {
     match script.next_head(rt)? {
         Some(SchemeHead::Bench(key)) => {
             println!(rt; "scheme bench")?;
@@ -103,14 +104,14 @@ fn turning(heap: Global, budget: u32, k: u32) -> Result<BloomTokenLog, Stop> {
 
 fn with_log<S: SealingScheme + Drop>(
     rt: &impl Print,
-    script: &mut Script<'_>,
+    script: &mut Script<impl BufRead>,
     scheme: S,
 ) -> Result<(), Stop> {
     let heap = script.heap;
     match script.next_head(rt)? {
         Some(LogHead::None) => {
             println!(rt; "log none")?;
-            with_gate(rt, script, scheme, NoneTokenLog {})
+            with_gate(rt, script, scheme, NoneTokenLog)
         }
         Some(LogHead::Set { capacity }) => {
             let log = TwoGenerationLog::new(set(heap, capacity)?, set(heap, capacity)?);
@@ -139,7 +140,7 @@ fn with_log<S: SealingScheme + Drop>(
 
 fn with_gate<S: SealingScheme + Drop, L: TokenLog + Drop>(
     rt: &impl Print,
-    script: &mut Script<'_>,
+    script: &mut Script<impl BufRead>,
     scheme: S,
     log: L,
 ) -> Result<(), Stop> {
@@ -154,13 +155,13 @@ fn with_gate<S: SealingScheme + Drop, L: TokenLog + Drop>(
 
 fn with_store<S: SealingScheme + Drop, L: TokenLog + Drop>(
     rt: &impl Print,
-    script: &mut Script<'_>,
+    script: &mut Script<impl BufRead>,
     gate: Gate<S, L>,
 ) -> Result<(), Stop> {
     match script.next_head(rt)? {
         Some(StoreHead::None) => {
             println!(rt; "store none")?;
-            run_session(rt, script, gate, NoneTokenStore::new())
+            run_session(rt, script, gate, NoneTokenStore)
         }
         Some(StoreHead::Cache { names, tokens }) => with_cache(rt, script, gate, names, tokens),
         None => Ok(()),
@@ -170,14 +171,14 @@ fn with_store<S: SealingScheme + Drop, L: TokenLog + Drop>(
 // A cache, in memory for as much as its limits allow.
 fn with_cache<S: SealingScheme + Drop, L: TokenLog + Drop>(
     rt: &impl Print,
-    script: &mut Script<'_>,
+    script: &mut Script<impl BufRead>,
     gate: Gate<S, L>,
     names: u32,
     tokens: u32,
 ) -> Result<(), Stop> {
     let heap = script.heap;
-    let most = names.min(MOST_SERVER_NAMES) as usize;
-    let each = tokens.min(MOST_TOKENS_PER_SERVER) as usize;
+    let most = names.min(MAX_SERVER_NAMES) as usize;
+    let each = tokens.min(MAX_TOKENS_PER_SERVER) as usize;
     let mut name_memory = vec![in heap; Record::new(NameEntry::new()); most]?;
     let mut token_memory = vec![in heap; Record::new(Text::new()); most * each]?;
     let cache = TokenMemoryCache::new(names, tokens, &mut name_memory, &mut token_memory)?;
@@ -187,7 +188,7 @@ fn with_cache<S: SealingScheme + Drop, L: TokenLog + Drop>(
 
 fn run_session<S: SealingScheme + Drop, L: TokenLog + Drop, T: TokenStore + Drop>(
     rt: &impl Print,
-    script: &mut Script<'_>,
+    script: &mut Script<impl BufRead>,
     gate: Gate<S, L>,
     store: T,
 ) -> Result<(), Stop> {

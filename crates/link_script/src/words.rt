@@ -18,40 +18,51 @@ pub(crate) enum Bad {
     Memory(#[from] AllocError),
 }
 
-// The words that are left of a line, and the heap for what they say. (A field cannot be given what `split_first` cuts, so the
-// front is cut by a range.)
-#[derive(Drop)]
-pub(crate) struct Words<'w, 'a> {
+// The words that are left of a line, single spaces between them, and the heap for what they say. A line has at least one word,
+// which may be empty.
+#[derive(Clone, Copy)]
+pub(crate) struct Words<'a> {
     heap: Global,
-    left: &'w [&'a str],
+    left: Option<&'a str>,
 }
 
-impl<'w, 'a> Words<'w, 'a> {
-    pub(crate) fn new(heap: Global, words: &'w [&'a str]) -> Words<'w, 'a> {
-        Words { heap, left: words }
+impl<'a> Words<'a> {
+    pub(crate) fn new(heap: Global, line: &'a str) -> Words<'a> {
+        Words {
+            heap,
+            left: Some(line),
+        }
     }
 
     pub(crate) fn next(&mut self) -> Result<&'a str, Bad> {
-        let Some(word) = self.left.first().copied() else {
+        let Some(left) = self.left else {
             return Err(Bad::Line("a word is missing"));
         };
-        self.left = &self.left[1..];
-        Ok(word)
+        match left.split_once(' ') {
+            Some((word, rest)) => {
+                self.left = Some(rest);
+                Ok(word)
+            }
+            None => {
+                self.left = None;
+                Ok(left)
+            }
+        }
     }
 
     pub(crate) fn end(&self) -> Result<(), Bad> {
-        if !self.left.is_empty() {
+        if self.left.is_some() {
             return Err(Bad::Line("a word too many"));
         }
         Ok(())
     }
 
-    // A word that is a value of this type.
+    // A word that is a number of this type.
     fn parsed<T: FromStr + Drop>(&mut self, otherwise: &'static str) -> Result<T, Bad>
     where
         T::Err: Drop,
     {
-        self.next()?.parse::<T>().map_err(|_| Bad::Line(otherwise))
+        plain(self.next()?).ok_or(Bad::Line(otherwise))
     }
 
     pub(crate) fn number<T: FromStr + Drop>(&mut self) -> Result<T, Bad>
@@ -102,10 +113,11 @@ impl<'w, 'a> Words<'w, 'a> {
 
     // The length of a buffer after its word, or the usual one where the word is not there.
     pub(crate) fn length(&mut self, word: &str, usual: usize) -> Result<usize, Bad> {
-        match self.left.first().copied() {
-            Some(next) if next == word => self.left = &self.left[1..],
-            _ => return Ok(usual),
+        let mut ahead = *self;
+        if ahead.next() != Ok(word) {
+            return Ok(usual);
         }
+        *self = ahead;
         let length = self.number::<u32>()? as usize;
         if length > MOST {
             return Err(Bad::Line("a buffer too long"));
@@ -119,12 +131,23 @@ fn exact<const N: usize>(bytes: &[u8]) -> Option<[u8; N]> {
     bytes.as_array().copied()
 }
 
+// A number in decimal, without a sign and without a needless zero.
+fn plain<T: FromStr + Drop>(word: &str) -> Option<T>
+where
+    T::Err: Drop,
+{
+    match word.as_bytes() {
+        [b'0'] | [b'1'..=b'9', ..] => word.parse().ok(),
+        _ => None,
+    }
+}
+
 // Four numbers of a byte each, with dots between them.
 fn quad(word: &str) -> Option<[u8; 4]> {
     let mut parts = word.split('.');
     let mut octets = [0; 4];
     for octet in octets.iter_mut() {
-        *octet = parts.next()?.parse().ok()?;
+        *octet = plain(parts.next()?)?;
     }
     match parts.next() {
         Some(_) => None,

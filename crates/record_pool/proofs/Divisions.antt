@@ -10,7 +10,8 @@ use Rattle.record_pool.specs.Chains.{walk, along, follow, hit, times, Shared}
 use Rattle.record_pool.specs.Pools.{links, places, item_at, held, nth, Divided, InOne}
 use Rattle.record_pool.proofs.Runs.{hit_same, hit_other, times-++, follow_more, length-walk, get_d_walk}
 use Rattle.record_pool.proofs.Sharing.{joined_map, reshared, bring, send}
-use Rattle.record_pool.proofs.Steps.{no_such, met_nth}
+use Rattle.record_pool.proofs.Steps.{met_nth}
+use Rattle.record_pool.proofs.Writes.{no_such}
 
 -- ---- a place that stands once
 
@@ -113,6 +114,7 @@ to_front pool front back c d = record {
   size = d.size;
   shared = bring (length pool.records.now) (links pool.records.now) (c ∷ []) pool.free (front ++ back)
       (bring (length pool.records.now) (links pool.records.now) (pool.free ∷ front) c back d.shared);
+  blanked = d.blanked;
 }
 
 pub from_front : {X : Type 0} (pool : Pool X) (front back : List Chain) (c : Chain) → Divided pool (c ∷ (front ++ back)) → Divided pool (front ++ c ∷ back)
@@ -120,6 +122,7 @@ from_front pool front back c d = record {
   size = d.size;
   shared = send (length pool.records.now) (links pool.records.now) (pool.free ∷ front) c back
       (bring (length pool.records.now) (links pool.records.now) (pool.free ∷ []) c (front ++ back) d.shared);
+  blanked = d.blanked;
 }
 
 -- ---- how long the chains are
@@ -148,4 +151,5 @@ without_empty pool c chains z d =
       shared = reshared (length pool.records.now) nx nx (pool.free ∷ c ∷ chains) (pool.free ∷ chains) d.shared
           (λ p. ap (λ ps. times p (along nx pool.free ++ (ps ++ flat_map (along nx) chains))) (sym none))
           (ap (λ ps. length (along nx pool.free ++ (ps ++ flat_map (along nx) chains))) (sym none)) (d.shared.ended.0, d.shared.ended.1.1);
+      blanked = d.blanked;
     }

@@ -7,7 +7,7 @@ use Rattle.record_pool.specs.Pools.{links, item_at, put_before, items_from}
 use Rattle.record_pool.proofs.Cells.{links-at, slots_at}
 use Rattle.record_pool.proofs.Runs.{hit_same}
 use Rattle.record_pool.proofs.Sharing.{in_range}
-use Rattle.record_pool.proofs.Steps.{item_there}
+use Rattle.record_pool.proofs.Writes.{item_there}
 
 pub gives : {X : Type 0} (rs : List (Record X)) (k s i : ℕ) (r : Record X) → 0 < k → i + 1 ≡ s → i < length rs
     → items_from k rs s ≡ (slice_index_or rs i r).item ∷ items_from (k - 1) rs (slice_index_or rs i r).next

@@ -20,7 +20,7 @@ pub all_given : {X : Type 0} (pool : Pool X) (cs others : List Chain) → Divide
 all_given pool [] others d = refl
 all_given pool (c ∷ cs) others d = ap₂ (λ x xs. x ∷ xs) (given pool c (cs ++ others) d) (all_given pool cs (c ∷ others) (from_front pool cs others c d))
 
-abbrev first_of : {X : Type 0} → X → List (Option X) → X
+abbrev pub first_of : {X : Type 0} → X → List (Option X) → X
 first_of x [] = x
 first_of x (None ∷ ys) = x
 first_of x (Some y ∷ ys) = y
@@ -42,6 +42,7 @@ pub record Holds {X : Type 0} (before after : Pool X) (c : Chain) (others : List
   pub size : length after.records.now ≡ length before.records.now
   pub gives : items after c ≡ xs
   pub rest : map (items after) others ≡ map (items before) others
+  pub blank : after.blank ≡ before.blank
 
 pub holds : {X : Type 0} (before after : Pool X) (b c : Chain) (others : List Chain) (ps : List ℕ) (ys : List (Option X)) (fs : List ℕ) (xs : List X) → Divided before (b ∷ others)
     → Becomes before after c others ps ys fs → ys ≡ map (λ x. Some x) xs → Holds before after c others xs
@@ -52,4 +53,5 @@ holds before after b c others ps ys fs xs d h e = record {
   rest = all_same (items after) (items before) others
       (all_given after others (c ∷ []) (to_end after c others h.divided)
       ∙ h.kept.hold ∙ sym (all_given before others (b ∷ []) (to_end before b others d)));
+  blank = h.blank;
 }

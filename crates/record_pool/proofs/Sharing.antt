@@ -40,7 +40,7 @@ joined_kept nx nx' cs e = joined_map nx' cs ∙ ap (flat_map (λ (xs : List ℕ)
 
 -- ---- what sharing says
 
-none_or : (m : ℕ) → (m ≡ 0) ⊎ (0 < m)
+pub none_or : (m : ℕ) → (m ≡ 0) ⊎ (0 < m)
 none_or zero = inl refl
 none_or (suc m) = inr (omega arith)
 

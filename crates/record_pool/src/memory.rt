@@ -1,9 +1,9 @@
 // Chains in the lent records. A place without a record is never read or written. Functions of the records, not methods of
 // the pool: a call of a method takes the pool whole, while its free chain is being changed.
-ghost use Rattle.std.specs.Prelude.{◌≡◌, ◌+◌, ◌^◌, ◌<◌, List, [], ◌∷◌, length, is_some, MatchOption, slice_index, slice_set};
+ghost use Rattle.std.specs.Prelude.{◌≡◌, ◌+◌, ◌^◌, ◌<◌, List, [], ◌∷◌, length, is_some, MatchOption, Some as is_item, None as is_none, replicate, slice_index, slice_set};
 ghost use Rattle.record_pool.specs.declared.chain.Chain.{Chain};
 ghost use Rattle.record_pool.specs.Chains.{follow, along, down, Shared, Detached, Joined};
-ghost use Rattle.record_pool.specs.Pools.{Outside, links, slots, item_at, some_at};
+ghost use Rattle.record_pool.specs.Pools.{Outside, links, slots, item_at, some_at, all_at};
 
 use crate::chain::Chain;
 use crate::record::Record;
@@ -54,6 +54,18 @@ pub(crate) fn put<T: Copy>(records: &mut [Record<T>], place: u32, item: T) -> bo
     true
 }
 
+// Writes one item into each record along a chain.
+pub(crate) fn put_along<T: Copy>(records: &mut [Record<T>], chain: Chain, item: T)
+    ensures links { links records.new ≡ links records.old }
+    ensures slots { slots records.new ≡ all_at (slots records.old) (along (links records.old) chain) item }
+{
+    let mut place = chain.first;
+    for _ in 0..chain.count {
+        put(records, place, item);
+        place = next_of(records, place);
+    }
+}
+
 // Where so many links lead from the first of a chain.
 pub(crate) fn place_of<T: Copy>(records: &[Record<T>], chain: Chain, count: u32) -> u32
     ensures { result ≡ follow count (links records.now) chain.first }
@@ -71,7 +83,7 @@ pub(crate) struct Parts {
 // Takes record k out of a chain.
 pub(crate) fn detach<T: Copy>(records: &mut [Record<T>], chain: Chain, k: u32) -> Parts
     requires { k < chain.count }
-    ensures first { k ≡ 0 → result.one.first ≡ chain.first }
+    ensures first { result.one.first ≡ follow k (links records.old) chain.first }
     ensures slots { slots records.new ≡ slots records.old }
     ensures chains { (others : List Chain) → Shared (length records.old) (links records.old) (chain ∷ others) → Detached (length records.old) (links records.old) (links records.new) chain k result.rest result.one others }
 {
@@ -119,10 +131,10 @@ pub(crate) fn join<T: Copy>(records: &mut [Record<T>], front: Chain, back: Chain
     }
 }
 
-// All records in one chain, from the last to the first.
-pub(crate) fn chain_all<T: Copy>(records: &mut [Record<T>]) -> Chain
+// All records in one chain, from the last to the first, each with the same item.
+pub(crate) fn chain_all<T: Copy>(records: &mut [Record<T>], item: T) -> Chain
     requires { length records.old < 2 ^ 32 }
-    ensures slots { slots records.new ≡ slots records.old }
+    ensures slots { slots records.new ≡ is_none ∷ replicate (length records.old) (is_item item) }
     ensures count { result.count ≡ length records.old }
     ensures chains { Shared (length records.old) (links records.new) (result ∷ []) }
     ensures order { along (links records.new) result ≡ down (length records.old) }
@@ -130,6 +142,7 @@ pub(crate) fn chain_all<T: Copy>(records: &mut [Record<T>]) -> Chain
     let count = records.len() as u32;
     for (i, record) in records.iter_mut().enumerate() {
         record.next = i as u32;
+        record.item = item;
     }
     Chain {
         first: count,

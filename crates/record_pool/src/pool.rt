@@ -1,34 +1,62 @@
-ghost use Rattle.std.specs.Prelude.{◌≡◌, ℕ, ◌+◌, ◌^◌, ◌<◌, ◌≤◌, List, [], ◌∷◌, ◌++◌, map, length, drop, is_some, is_ok, if◌then◌else◌, Some as is_item, None as is_none, IfSome, MatchOption, MatchResult, nat_eq, nat_lt, slice_index, slice_index_or, slice_set};
+ghost use Rattle.std.specs.Prelude.{◌≡◌, ℕ, ◌+◌, ◌^◌, ◌<◌, ◌≤◌, List, [], ◌∷◌, ◌++◌, map, length, drop, is_some, is_ok, if◌then◌else◌, Some as is_item, None as is_none, IfErr, IfOk, IfSome, MatchOption, nat_eq, nat_lt, replicate, slice_index, slice_index_or, slice_set, take};
 ghost use Rattle.answers.specs.declared.Refusal.TheVariants.{Capacity};
 ghost use Rattle.record_pool.specs.declared.chain.Chain.{Chain};
 ghost use Rattle.record_pool.specs.Chains.{empty_chain, down, without};
 ghost use Rattle.record_pool.specs.Items.{items_left};
-ghost use Rattle.record_pool.specs.Pools.{some_place, links, slots, item_at, some_at, places, held, items, Divided, Becomes, Same, nth, to_back};
+ghost use Rattle.record_pool.specs.Pools.{some_place, links, slots, item_at, some_at, one_put, blank_at, places, held, items, Divided, Becomes, Leaves, Same, nth, to_back};
 
 use crate::chain::Chain;
 use crate::items::Items;
-use crate::memory::{Parts, chain_all, detach, item_of, join, next_of, place_of, put};
+use crate::memory::{Parts, chain_all, detach, item_of, join, next_of, place_of, put, put_along};
 use crate::record::Record;
-use answers::Refusal;
+use answers::{Refusal, Refused};
 
-// Records in lent memory, and the chain of the free ones.
+// Records in lent memory, the chain of the free ones, and the item that these hold.
 #[derive(Drop)]
 pub struct Pool<'a, T> {
     records: &'a mut [Record<T>],
     free: Chain,
+    blank: T,
 }
 
 impl<'a, T: Copy> Pool<'a, T> {
-    // A pool of these records, all free. More than 32 bits can count are refused.
-    pub fn new(records: &'a mut [Record<T>]) -> Result<Pool<'a, T>, Refusal>
+    // A pool of these records, all free, and each with the blank. More than 32 bits can count are refused, and come back.
+    pub fn new(
+        records: &'a mut [Record<T>],
+        blank: T,
+    ) -> Result<Pool<'a, T>, Refused<&'a mut [Record<T>]>>
         ensures answer { is_ok result ≡ nat_lt (length records.old) (2 ^ 32) }
-        ensures cases { MatchResult result (λ p. Divided p [] × (places p p.free ≡ down (length records.old)) × (p.free.count ≡ length records.old) × (slots p.records.now ≡ slots records.old)) (λ e. e ≡ Capacity) }
+        ensures made { IfOk result (λ p. Divided p [] × (places p p.free ≡ down (length records.old)) × (p.free.count ≡ length records.old)) }
+        ensures items { IfOk result (λ p. (slots p.records.now ≡ is_none ∷ replicate (length records.old) (is_item blank)) × (p.blank ≡ blank)) }
+        ensures refused { IfErr result (λ e. (e.refusal ≡ Capacity) × (e.back.now ≡ records.old)) }
     {
         if records.len() > u32::MAX as usize {
-            return Err(Refusal::Capacity);
+            return Err(Refused {
+                refusal: Refusal::Capacity,
+                back: records,
+            });
         }
-        let free = chain_all(records);
-        Ok(Pool { records, free })
+        let free = chain_all(records, blank);
+        Ok(Pool {
+            records,
+            free,
+            blank,
+        })
+    }
+
+    // The records as they stand.
+    pub fn records(&self) -> &[Record<T>]
+        ensures { result.now ≡ self.now.records.now }
+    {
+        self.records
+    }
+
+    // The records, from which the pool then goes.
+    pub fn into_records(self) -> &'a mut [Record<T>]
+        ensures { result.now ≡ self.entry.records.now }
+    {
+        let Pool { records, .. } = self;
+        records
     }
 
     // How many records are free.
@@ -82,20 +110,21 @@ impl<'a, T: Copy> Pool<'a, T> {
         }
     }
 
-    // Writes the item at a place, and answers whether there is such a place.
-    pub fn set_item(&mut self, place: u32, item: T) -> bool
-        ensures answer { result ≡ is_some (item_at self.old.records.now place) }
+    // Writes the item at a place; none where there is no such place.
+    pub fn set_item(&mut self, place: u32, item: T) -> Option<()>
+        ensures answer { is_some result ≡ is_some (item_at self.old.records.now place) }
         ensures free { self.new.free ≡ self.old.free }
         ensures links { links self.new.records.now ≡ links self.old.records.now }
-        ensures slots { slots self.new.records.now ≡ some_at (slots self.old.records.now) place item }
+        ensures leaves { Leaves self.old self.new (some_at (slots self.old.records.now) place item) }
         ensures chains { (chain : Chain) (others : List Chain) (k : ℕ) → Divided self.old (chain ∷ others) → nth (places self.old chain) k ≡ is_item place → Becomes self.old self.new chain others (places self.old chain) (slice_set (held self.old chain) k (is_item item)) (places self.old self.old.free) }
     {
-        put(self.records, place, item)
+        put(self.records, place, item).then_some(())
     }
 
     // Takes the first free record for an item, as a chain of its own.
     fn take(&mut self, item: T) -> Option<Chain>
         ensures answer { MatchOption result ((self.old.free.count ≡ 0) × Same self.old self.new) (λ one. (0 < self.old.free.count) × (one.first ≡ self.old.free.first)) }
+        ensures leaves { Leaves self.old self.new (one_put self.old item) }
         ensures chains { IfSome result (λ one. (others : List Chain) → Divided self.old others → Becomes self.old self.new one others (self.old.free.first ∷ []) (is_item item ∷ []) (drop 1 (places self.old self.old.free))) }
     {
         if self.free.count == 0 {
@@ -111,6 +140,7 @@ impl<'a, T: Copy> Pool<'a, T> {
     pub fn push_back(&mut self, chain: &mut Chain, item: T) -> Option<u32>
         ensures answer { result ≡ (if nat_eq self.old.free.count 0 then is_none else is_item self.old.free.first) }
         ensures refused { self.old.free.count ≡ 0 → Same self.old self.new × (chain.new ≡ chain.old) }
+        ensures leaves { Leaves self.old self.new (one_put self.old item) }
         ensures chains { (others : List Chain) → 0 < self.old.free.count → Divided self.old (chain.old ∷ others) → Becomes self.old self.new chain.new others (places self.old chain.old ++ self.old.free.first ∷ []) (held self.old chain.old ++ is_item item ∷ []) (drop 1 (places self.old self.old.free)) }
     {
         let one = self.take(item)?;
@@ -122,6 +152,7 @@ impl<'a, T: Copy> Pool<'a, T> {
     pub fn push_front(&mut self, chain: &mut Chain, item: T) -> Option<u32>
         ensures answer { result ≡ (if nat_eq self.old.free.count 0 then is_none else is_item self.old.free.first) }
         ensures refused { self.old.free.count ≡ 0 → Same self.old self.new × (chain.new ≡ chain.old) }
+        ensures leaves { Leaves self.old self.new (one_put self.old item) }
         ensures chains { (others : List Chain) → 0 < self.old.free.count → Divided self.old (chain.old ∷ others) → Becomes self.old self.new chain.new others (self.old.free.first ∷ places self.old chain.old) (is_item item ∷ held self.old chain.old) (drop 1 (places self.old self.old.free)) }
     {
         let one = self.take(item)?;
@@ -129,48 +160,54 @@ impl<'a, T: Copy> Pool<'a, T> {
         Some(one.first)
     }
 
-    // Takes record k out of a chain and frees it; answers its item.
+    // Takes record k out of a chain and frees it, blank; answers its item.
     pub fn remove(&mut self, chain: &mut Chain, k: u32) -> Option<T>
         ensures answer { result ≡ slice_index_or (held self.old chain.old) k is_none }
         ensures refused { result ≡ is_none → Same self.old self.new × (chain.new ≡ chain.old) }
+        ensures leaves { Leaves self.old self.new (blank_at self.old (take 1 (drop k (places self.old chain.old)))) }
         ensures chains { (others : List Chain) → k < chain.old.count → Divided self.old (chain.old ∷ others) → Becomes self.old self.new chain.new others (without k (places self.old chain.old)) (without k (held self.old chain.old)) (slice_index (places self.old chain.old) k ∷ places self.old self.old.free) }
     {
         let from = *chain;
         let item = self.get(from, k)?;
         let Parts { rest, one } = detach(self.records, from, k);
+        put(self.records, one.first, self.blank);
         self.free = join(self.records, one, self.free);
         *chain = rest;
         Some(item)
     }
 
-    // Takes the first record out of a chain and frees it; answers its item.
+    // Takes the first record out of a chain and frees it, blank; answers its item.
     pub fn pop_front(&mut self, chain: &mut Chain) -> Option<T>
         ensures answer { result ≡ slice_index_or (held self.old chain.old) 0 is_none }
         ensures refused { result ≡ is_none → Same self.old self.new × (chain.new ≡ chain.old) }
+        ensures leaves { Leaves self.old self.new (blank_at self.old (take 1 (places self.old chain.old))) }
         ensures chains { (others : List Chain) → 0 < chain.old.count → Divided self.old (chain.old ∷ others) → Becomes self.old self.new chain.new others (drop 1 (places self.old chain.old)) (drop 1 (held self.old chain.old)) (slice_index (places self.old chain.old) 0 ∷ places self.old self.old.free) }
     {
         self.remove(chain, 0)
     }
 
-    // Makes record k of a chain its last; answers whether there is such a record.
-    pub fn move_to_back(&mut self, chain: &mut Chain, k: u32) -> bool
-        ensures answer { result ≡ nat_lt k chain.old.count }
+    // Makes record k of a chain its last; none where there is no such record.
+    pub fn move_to_back(&mut self, chain: &mut Chain, k: u32) -> Option<()>
+        ensures answer { is_some result ≡ nat_lt k chain.old.count }
         ensures refused { chain.old.count ≤ k → Same self.old self.new × (chain.new ≡ chain.old) }
+        ensures leaves { Leaves self.old self.new (slots self.old.records.now) }
         ensures chains { (others : List Chain) → k < chain.old.count → Divided self.old (chain.old ∷ others) → Becomes self.old self.new chain.new others (to_back k (places self.old chain.old)) (to_back k (held self.old chain.old)) (places self.old self.old.free) }
     {
         if k >= chain.count {
-            return false;
+            return None;
         }
         let Parts { rest, one } = detach(self.records, *chain, k);
         *chain = join(self.records, rest, one);
-        true
+        Some(())
     }
 
-    // Frees all records of a chain, which is then empty.
+    // Frees all records of a chain, blank; it is then empty.
     pub fn release(&mut self, chain: &mut Chain)
         ensures empty { chain.new ≡ empty_chain }
+        ensures leaves { Leaves self.old self.new (blank_at self.old (places self.old chain.old)) }
         ensures chains { (others : List Chain) → Divided self.old (chain.old ∷ others) → Becomes self.old self.new chain.new others [] [] (places self.old chain.old ++ places self.old self.old.free) }
     {
+        put_along(self.records, *chain, self.blank);
         self.free = join(self.records, *chain, self.free);
         *chain = Chain::new();
     }

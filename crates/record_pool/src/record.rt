@@ -15,4 +15,10 @@ impl<T: Copy> Record<T> {
     {
         Record { next: 0, item }
     }
+
+    pub fn item(&self) -> T
+        ensures { result ≡ self.now.item }
+    {
+        self.item
+    }
 }

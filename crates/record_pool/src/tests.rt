@@ -32,7 +32,9 @@ fn push_all(pool: &mut Pool<u32>, chain: &mut Chain, items: &[u32]) {
 #[test]
 fn chains_share_a_pool(rt: HostRuntime) -> Result<(), Fail> {
     let mut memory = [Record::new(0); 5];
-    let mut pool = Pool::new(&mut memory)?;
+    let Ok(mut pool) = Pool::new(&mut memory, 0) else {
+        return Err("no pool".into());
+    };
     let mut left = Chain::new();
     let mut right = Chain::new();
     push_all(&mut pool, &mut left, &[1, 2, 3]);
@@ -40,7 +42,7 @@ fn chains_share_a_pool(rt: HostRuntime) -> Result<(), Fail> {
     let _ = pool.push_front(&mut right, 7);
     let full = pool.push_back(&mut right, 9);
     let moved = pool.move_to_back(&mut left, 1);
-    assert!(rt; full == None && moved);
+    assert!(rt; full.is_none() && moved.is_some());
     assert!(rt; holds(&pool, left, &[1, 3, 2]) && holds(&pool, right, &[7, 8]));
     Ok(())
 }
@@ -48,7 +50,9 @@ fn chains_share_a_pool(rt: HostRuntime) -> Result<(), Fail> {
 #[test]
 fn records_come_back(rt: HostRuntime) -> Result<(), Fail> {
     let mut memory = [Record::new(0); 5];
-    let mut pool = Pool::new(&mut memory)?;
+    let Ok(mut pool) = Pool::new(&mut memory, 0) else {
+        return Err("no pool".into());
+    };
     let mut left = Chain::new();
     let mut right = Chain::new();
     push_all(&mut pool, &mut left, &[1, 2, 3]);
@@ -66,14 +70,18 @@ fn records_come_back(rt: HostRuntime) -> Result<(), Fail> {
 #[test]
 fn names_have_numbers(rt: HostRuntime) -> Result<(), Fail> {
     let mut number_memory = [Record::new(0); 4];
-    let mut numbers = Pool::new(&mut number_memory)?;
+    let Ok(mut numbers) = Pool::new(&mut number_memory, 0) else {
+        return Err("no pool".into());
+    };
     let mut ten = Name {
         id: 10,
         numbers: Chain::new(),
     };
     let mut twenty = Name { id: 20, ..ten };
     let mut name_memory = [Record::new(ten); 2];
-    let mut names = Pool::new(&mut name_memory)?;
+    let Ok(mut names) = Pool::new(&mut name_memory, ten) else {
+        return Err("no pool".into());
+    };
     let mut all = Chain::new();
     push_all(&mut numbers, &mut ten.numbers, &[11, 12]);
     push_all(&mut numbers, &mut twenty.numbers, &[21]);
@@ -82,7 +90,7 @@ fn names_have_numbers(rt: HostRuntime) -> Result<(), Fail> {
     push_all(&mut numbers, &mut ten.numbers, &[13]);
     let set = names.set_item(place.unwrap_or(0), ten);
     let moved = names.move_to_back(&mut all, 0);
-    assert!(rt; set && moved && !names.set_item(3, ten));
+    assert!(rt; set.is_some() && moved.is_some() && names.set_item(3, ten).is_none());
     let last = names.get(all, 1).ok_or("no last name")?;
     assert!(rt; last.id == ten.id && holds(&numbers, last.numbers, &[11, 12, 13]));
     Ok(())
@@ -91,7 +99,9 @@ fn names_have_numbers(rt: HostRuntime) -> Result<(), Fail> {
 #[test]
 fn the_place_freed_last_is_used_first(rt: HostRuntime) -> Result<(), Fail> {
     let mut memory = [Record::new(0); 3];
-    let mut pool = Pool::new(&mut memory)?;
+    let Ok(mut pool) = Pool::new(&mut memory, 0) else {
+        return Err("no pool".into());
+    };
     let mut chain = Chain::new();
     for place in [3, 2, 1] {
         assert_eq!(rt; pool.push_back(&mut chain, place), Some(place));
@@ -101,5 +111,22 @@ fn the_place_freed_last_is_used_first(rt: HostRuntime) -> Result<(), Fail> {
     assert_eq!(rt; pool.push_back(&mut chain, 8), Some(3));
     assert_eq!(rt; pool.push_back(&mut chain, 9), Some(2));
     assert!(rt; holds(&pool, chain, &[1, 8, 9]));
+    Ok(())
+}
+
+#[test]
+fn what_is_freed_is_blank(rt: HostRuntime) -> Result<(), Fail> {
+    let mut memory = [Record::new(9); 6];
+    let Ok(mut pool) = Pool::new(&mut memory, 0) else {
+        return Err("no pool".into());
+    };
+    let mut left = Chain::new();
+    let mut right = Chain::new();
+    push_all(&mut pool, &mut left, &[1, 2, 3]);
+    push_all(&mut pool, &mut right, &[7, 8]);
+    assert_eq!(rt; pool.remove(&mut left, 1), Some(2));
+    pool.release(&mut right);
+    let items = memory.map(|record| record.item);
+    assert!(rt; items == [0, 0, 0, 3, 0, 1]);
     Ok(())
 }

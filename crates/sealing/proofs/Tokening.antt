@@ -4,17 +4,14 @@ use borrow.Rule.Slice.PartMut.{put_mid}
 use Rattle.std.proofs.lemmas.List.{take_at}
 use Rattle.std.proofs.lemmas.Bool.{le-ltb, or_from, cond-false}
 use Rattle.answers.specs.declared.Cause.{Cause}
-use Rattle.answers.specs.declared.Cause.TheVariants.{Undecodable}
-use Rattle.answers.specs.declared.Fault.{Fault}
 use Rattle.wire.specs.Numbers.{from_little_endian}
 use Rattle.wire.specs.declared.types.TokenPayload.{TokenPayload}
 use Rattle.answers.specs.Buffers.{fronted, pasted}
 use Rattle.answers.proofs.Buffers.{put_pasted, pasted-pasted, pasted_front}
-use Rattle.sealing.specs.declared.token.Token.{Token}
 use Rattle.sealing.specs.Sealing.{Image, Opening, Opens, content_in, opened_in}
 use Rattle.wire.proofs.Faithful.{same_ok}
 use Rattle.answers.specs.declared.Refusal.{Refusal}
-use Rattle.sealing.specs.Tokens.{sized, sealed_of, nonce_of, low_of, decoded, unsealed, says, content_read}
+use Rattle.sealing.specs.Tokens.{sized, sealed_of, nonce_of, low_of, unsealed, says, token_read}
 
 pub well_sized : (t : List ℕ) → 16 ≤ length t → length t ≤ 81 → sized t ≡ Ok tt
 well_sized t least most =
@@ -36,19 +33,23 @@ module _ (opened : Opening) (t : List ℕ) where
   says_of {sealed} {nonce} p o h =
       says_opened (sym p.0) ∙ ap unsealed (ap (λ y. opened y (sealed_of t)) (sym p.1.1) ∙ ap (opened nonce) (sym p.1.0) ∙ sym h)
 
-  pub low_is : {nonce : List ℕ} → nonce ≡ nonce_of t → (low : ℕ) → low ≡ from_little_endian (take 8 nonce) → low ≡ low_of t
+  low_is : {nonce : List ℕ} → nonce ≡ nonce_of t → (low : ℕ) → low ≡ from_little_endian (take 8 nonce) → low ≡ low_of t
   unfolding low_of
   low_is p low h = h ∙ ap (λ y. from_little_endian (take 8 y)) p
+
+  -- what is answered where nothing is said, and where a content is
+  pub nothing_read : (e : Cause) → says opened t ≡ Err e → Err e ≡ token_read opened t
+  nothing_read e h = rw h
+
+  pub content_read : {nonce : List ℕ} → nonce ≡ nonce_of t → (low : ℕ) → low ≡ from_little_endian (take 8 nonce) → (content : TokenPayload)
+      → says opened t ≡ Ok content → Ok (record { payload = content; low = low }) ≡ token_read opened t
+  content_read p low h content e = rw (e, low_is p low h)
 
 -- what was opened into working bytes enough
 pub opened_enough : {opening : List ℕ → Option (List ℕ)} {sealed working working' : List ℕ} {r : Result (Option ℕ) Refusal} (o : Option ℕ)
     → Opens opening sealed working working' r → 96 ≤ length working → r ≡ Ok o → content_in working' o ≡ opening sealed
 opened_enough {working = working} {working' = working'} o h enough e =
     same_ok _ _ (ap (opened_in working') (sym e) ∙ h.answer ∙ cond-false _ _ _ (le-ltb (length working) 96 enough))
-
--- a fault of the content is the cause, unaltered
-pub undecodable : (r : Result Token Cause) (f : Fault) (content : Result TokenPayload Fault) → r ≡ Err (Undecodable f) → Err f ≡ content → content_read r ≡ decoded content
-undecodable r f content e h = ap content_read e ∙ ap decoded h
 
 -- the steps of writing: the content's bytes into the working bytes, their image into the buffer, and the nonce behind it
 module _ (image : Image) (nonce bs working encoded out sealed part : List ℕ) (len end k : ℕ)

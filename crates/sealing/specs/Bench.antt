@@ -1,7 +1,6 @@
--- The bench scheme: it hides nothing, and sixteen check bytes end what it seals.
-use Rattle.std.specs.Prelude.{ℕ, suc, ◌+◌, ◌-◌, ◌%◌, List, [], ◌∷◌, ◌++◌, map, length, take, ◌==◌, slice_index, if◌then◌else◌}
+-- The tag of the bench scheme: sixteen check bytes.
+use Rattle.std.specs.Prelude.{ℕ, suc, ◌+◌, ◌%◌, List, [], ◌∷◌, map, ◌==◌, slice_index, if◌then◌else◌}
 use Rattle.std.specs.List.{range_with_len}
-use Rattle.sealing.specs.Sealing.{Image, Opening, open_by}
 
 -- the sum of the bytes whose place, counted from at, leaves j modulo sixteen
 unfoldable pub column : ℕ → ℕ → List ℕ → ℕ
@@ -14,9 +13,3 @@ check_byte key nonce content j = (slice_index key j + slice_index nonce j + colu
 
 unfoldable pub check_bytes : List ℕ → List ℕ → List ℕ → List ℕ
 check_bytes key nonce content = map (check_byte key nonce content) (range_with_len 0 16)
-
-abbrev pub bench_image : List ℕ → Image
-bench_image key nonce content = content ++ check_bytes key nonce content
-
-abbrev pub bench_opened : List ℕ → Opening
-bench_opened key = open_by (bench_image key) (λ nonce b. take (length b - 16) b)

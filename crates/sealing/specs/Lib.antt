@@ -2,6 +2,7 @@ pub mod Sealing
 pub mod Bench
 pub mod Tokens
 pub mod Laws
-pub mod Checking
+pub mod Tagged
+pub mod Tagging
 pub mod Checks
 pub mod Openings

@@ -8,7 +8,7 @@ pub struct Nonce {
 }
 
 // What a token says: its content, and the low half of its nonce.
-#[derive(Clone, Copy)]
+#[derive(Clone, Copy, Debug, PartialEq, Eq)]
 pub struct Token {
     pub payload: TokenPayload,
     pub low: u64,

@@ -1,19 +1,16 @@
 ghost use Rattle.std.specs.Prelude.{◌≡◌, ◌+◌, ◌≤◌, length, take, replicate, MatchResult, Ok, Err};
 ghost use Rattle.answers.specs.Buffers.{fronted};
 ghost use Rattle.wire.specs.Content.{encode_content};
-ghost use Rattle.wire.specs.Numbers.{from_little_endian};
-ghost use Rattle.sealing.specs.Tokens.{nonce_bytes, sealed_of, nonce_of, sized, sealed_with, token_for, TokenRead, TokenWritten, Read, Wrote};
+ghost use Rattle.wire.specs.Numbers.{Bytes, from_little_endian};
+ghost use Rattle.wire.specs.declared.TheConstants.{MAX_PAYLOAD_LEN};
+ghost use Rattle.sealing.specs.declared.TheConstants.{MAX_CONTENT_LEN, TAG_LEN};
+ghost use Rattle.sealing.specs.Tokens.{nonce_bytes, sealed_of, nonce_of, sized, sealed_with, token_for, TokenRead, TokenWritten, Wrote};
 
 use crate::token::{Nonce, Token};
 use crate::working::Working;
-use crate::{SealingScheme, WORKING};
+use crate::{MAX_TOKEN_LEN, NONCE_LEN, SealingScheme, WORKING_LEN};
 use answers::{Cause, Refusal, Refused};
 use wire::TokenPayload;
-
-// The bytes of a nonce, and the longest token.
-const NONCE: usize = 16;
-
-pub const MAX_TOKEN: usize = 81;
 
 impl Nonce {
     // The nonce of two halves that the host has drawn.
@@ -23,33 +20,33 @@ impl Nonce {
         Nonce { low, high }
     }
 
-    fn to_bytes(&self) -> [u8; NONCE]
+    fn to_bytes(&self) -> [u8; NONCE_LEN]
         ensures { result ≡ nonce_bytes self.now.low self.now.high }
     {
-        let mut bytes = [0; NONCE];
+        let mut bytes = [0; NONCE_LEN];
         bytes[0..8].copy_from_slice(&self.low.to_le_bytes());
         bytes[8..16].copy_from_slice(&self.high.to_le_bytes());
         bytes
     }
 }
 
-fn low_half(nonce: &[u8; NONCE]) -> u64
+fn low_half(nonce: &[u8; NONCE_LEN]) -> u64
     ensures { result ≡ from_little_endian (take 8 nonce.now) }
 {
     u64::from_le_bytes(*nonce.first_chunk::<8>().unwrap())
 }
 
 // The sealed bytes of a token of 16 to 81 bytes, and the nonce behind them.
-fn parts(token: &[u8]) -> Result<(&[u8], &[u8; NONCE]), Cause>
+fn parts(token: &[u8]) -> Result<(&[u8], &[u8; NONCE_LEN]), Cause>
     ensures { MatchResult result (λ p. (sized token.now ≡ Ok tt) × ((p.0.now ≡ sealed_of token.now) × (p.1.now ≡ nonce_of token.now))) (λ e. sized token.now ≡ Err e) }
 {
     if token.is_empty() {
         return Err(Cause::EmptyToken);
     }
-    if token.len() > MAX_TOKEN {
+    if token.len() > MAX_TOKEN_LEN {
         return Err(Cause::Unopened);
     }
-    token.split_last_chunk::<NONCE>().ok_or(Cause::Unopened)
+    token.split_last_chunk::<NONCE_LEN>().ok_or(Cause::Unopened)
 }
 
 // Opens the token into the working bytes and decodes what stands there. A scheme refuses nothing here, as it gets working
@@ -57,7 +54,7 @@ fn parts(token: &[u8]) -> Result<(&[u8], &[u8; NONCE]), Cause>
 fn read_token<S: SealingScheme>(
     scheme: &S,
     token: &[u8],
-    working: &mut [u8; WORKING],
+    working: &mut [u8; WORKING_LEN],
 ) -> Result<Token, Cause>
     ensures { TokenRead (S.SealingScheme.opened scheme.now) token.now result }
 {
@@ -72,38 +69,26 @@ fn read_token<S: SealingScheme>(
     })
 }
 
-// The same, and the guard wipes the working bytes. The guard has to be made as the first statement of a function.
-fn open_token<S: SealingScheme>(
+/// Opens a token, which may be any bytes, and decodes what it says; or tells why it says nothing: causes 20, 21 and 22.
+/// All working bytes are zero afterwards.
+// The guard wipes them. It has to be made as the first statement of a function.
+pub fn decode_token<S: SealingScheme>(
     scheme: &S,
     token: &[u8],
-    working: &mut [u8; WORKING],
+    working: &mut [u8; WORKING_LEN],
 ) -> Result<Token, Cause>
     ensures read { TokenRead (S.SealingScheme.opened scheme.now) token.now result }
-    ensures blank { working.new ≡ replicate 96 0 }
+    ensures blank { working.new ≡ replicate WORKING_LEN 0 }
 {
     let guard = Working(working);
     read_token(scheme, token, guard.0)
 }
 
-// Opens a token and decodes what it says, or tells why it says nothing. The working bytes are at least 96,
-// and the first 96 are zero afterwards.
-pub fn decode_token<S: SealingScheme>(
-    scheme: &S,
-    token: &[u8],
-    working: &mut [u8],
-) -> Result<Result<Token, Cause>, Refusal>
-    ensures { Read (S.SealingScheme.opened scheme.now) token.now working.old working.new result }
-{
-    let Some(working) = working.first_chunk_mut::<WORKING>() else {
-        return Err(Refusal::SmallBuffer);
-    };
-    Ok(open_token(scheme, token, working))
-}
-
 // Encodes into the working bytes, which have room for every content.
-fn encode_into(payload: &TokenPayload, working: &mut [u8; WORKING]) -> usize
+fn encode_into(payload: &TokenPayload, working: &mut [u8; WORKING_LEN]) -> usize
     ensures len { result ≡ length (encode_content payload.now) }
-    ensures bound { result ≤ 49 }
+    ensures bound { result ≤ MAX_PAYLOAD_LEN }
+    ensures bytes { Bytes (encode_content payload.now) }
     ensures after { working.new ≡ fronted (encode_content payload.now) working.old }
 {
     wire::payloads_are_sound(payload);
@@ -113,69 +98,69 @@ fn encode_into(payload: &TokenPayload, working: &mut [u8; WORKING]) -> usize
 // Seals with room enough, so that the scheme refuses nothing.
 fn seal_into<S: SealingScheme>(
     scheme: &S,
-    nonce: &[u8; NONCE],
+    nonce: &[u8; NONCE_LEN],
     len: usize,
-    working: &mut [u8; WORKING],
     out: &mut [u8],
+    working: &mut [u8; WORKING_LEN],
 ) -> usize
-    requires short { len ≤ 64 }
-    requires room { len + 16 ≤ length out.old }
-    ensures len { result ≡ len + 16 }
+    requires short { len ≤ MAX_CONTENT_LEN }
+    requires room { len + TAG_LEN ≤ length out.old }
+    ensures len { result ≡ len + TAG_LEN }
     ensures after { out.new ≡ fronted (S.SealingScheme.image scheme.now nonce.now (take len working.old)) out.old }
 {
-    scheme.seal(nonce, len, working, out).unwrap()
+    scheme.seal(nonce, len, out, working).unwrap()
 }
 
 // Encodes the content into the working bytes and seals what stands there.
 fn write_token<S: SealingScheme>(
     scheme: &S,
     payload: &TokenPayload,
-    nonce: &[u8; NONCE],
-    working: &mut [u8; WORKING],
+    nonce: &[u8; NONCE_LEN],
     out: &mut [u8],
+    working: &mut [u8; WORKING_LEN],
 ) -> usize
-    requires { 81 ≤ length out.old }
+    requires { MAX_TOKEN_LEN ≤ length out.old }
     ensures { TokenWritten (sealed_with (S.SealingScheme.image scheme.now) nonce.now payload.now) out.old out.new result }
 {
+    wire::slices_are_bytes(nonce);
     let len = encode_into(payload, working);
-    let end = seal_into(scheme, nonce, len, working, out);
-    out[end..end + NONCE].copy_from_slice(nonce);
-    end + NONCE
+    let end = seal_into(scheme, nonce, len, out, working);
+    out[end..end + NONCE_LEN].copy_from_slice(nonce);
+    end + NONCE_LEN
 }
 
 // The same, and the guard wipes the working bytes, as above.
 fn seal_token<S: SealingScheme>(
     scheme: &S,
     payload: &TokenPayload,
-    nonce: &[u8; NONCE],
-    working: &mut [u8; WORKING],
+    nonce: &[u8; NONCE_LEN],
     out: &mut [u8],
+    working: &mut [u8; WORKING_LEN],
 ) -> usize
-    requires { 81 ≤ length out.old }
+    requires { MAX_TOKEN_LEN ≤ length out.old }
     ensures written { TokenWritten (sealed_with (S.SealingScheme.image scheme.now) nonce.now payload.now) out.old out.new result }
-    ensures blank { working.new ≡ replicate 96 0 }
+    ensures blank { working.new ≡ replicate WORKING_LEN 0 }
 {
     let guard = Working(working);
-    write_token(scheme, payload, nonce, guard.0, out)
+    write_token(scheme, payload, nonce, out, guard.0)
 }
 
-// Writes the token of a content from the front of `out`, which has at least 81 bytes. The working bytes are at
-// least 96, and the first 96 are zero afterwards. A refusal gives the nonce back.
+/// Writes the token of a content to the front of `out` and answers its length, 46 to 81 bytes; all working bytes are
+/// zero afterwards. Fewer than 81 bytes of buffer are refused by 1: the nonce comes back, and nothing was written.
 pub fn encode_token<S: SealingScheme>(
     scheme: &S,
     payload: &TokenPayload,
     nonce: Nonce,
-    working: &mut [u8],
     out: &mut [u8],
+    working: &mut [u8; WORKING_LEN],
 ) -> Result<usize, Refused<Nonce>>
     ensures { Wrote (token_for (S.SealingScheme.image scheme.now) nonce.low nonce.high payload.now) working.old working.new out.old out.new nonce result }
 {
-    if out.len() < MAX_TOKEN || working.len() < WORKING {
+    if out.len() < MAX_TOKEN_LEN {
         return Err(Refused {
             refusal: Refusal::SmallBuffer,
             back: nonce,
         });
     }
-    let working = working.first_chunk_mut::<WORKING>().unwrap();
-    Ok(seal_token(scheme, payload, &nonce.to_bytes(), working, out))
+    Ok(seal_token(scheme, payload, &nonce.to_bytes(), out, working))
 }

@@ -1,5 +1,5 @@
 ghost use Rattle.std.specs.Prelude.{◌≡◌, ℕ, ◌+◌, ◌<◌, List, [], ◌∷◌, ◌++◌, map, length, take, bit_xor};
-ghost use Rattle.sha256.specs.Hmac.{key_block, hmac as hmac_of, signed};
+ghost use Rattle.sha256.specs.Hmac.{key_block, kept_of, hmac as hmac_of, signed};
 
 use crate::block::{BLOCK, compress};
 use crate::constants::INITIAL;
@@ -21,10 +21,10 @@ pub struct HmacKey {
 }
 
 // The key in a block, or its digest where it is longer.
-fn key_block(key: &[u8]) -> [u8; 64]
+fn key_block(key: &[u8]) -> [u8; BLOCK]
     ensures { result ≡ key_block key.now }
 {
-    let mut block = [0; 64];
+    let mut block = [0; BLOCK];
     if key.len() > BLOCK {
         block[0..32].copy_from_slice(&digest(key));
     } else {
@@ -33,18 +33,18 @@ fn key_block(key: &[u8]) -> [u8; 64]
     block
 }
 
-fn mask(block: &[u8; 64], pad: u8) -> [u8; 64]
+fn mask(block: &[u8; BLOCK], pad: u8) -> [u8; BLOCK]
     ensures { result ≡ map (λ b. bit_xor b pad) block.now }
 {
     block.map(|b| b ^ pad)
 }
 
 // What is left of an info after its whole blocks, and the byte 1 behind it.
-fn last_info(rest: &[u8]) -> [u8; 64]
+fn last_info(rest: &[u8]) -> [u8; BLOCK]
     requires { length rest.now < 64 }
     ensures { take (length rest.now + 1) result ≡ rest.now ++ (1 ∷ []) }
 {
-    let mut tail = [0; 64];
+    let mut tail = [0; BLOCK];
     tail[0..rest.len()].copy_from_slice(rest);
     tail[rest.len()] = FIRST_STEP;
     tail
@@ -53,7 +53,8 @@ fn last_info(rest: &[u8]) -> [u8; 64]
 impl HmacKey {
     // A key of any length. Under it, each message is signed as RFC 2104 says.
     pub fn new(key: &[u8]) -> HmacKey
-        ensures { (m : List ℕ) → signed result m ≡ hmac_of key.now m }
+        ensures kept { result ≡ kept_of key.now }
+        ensures signs { (m : List ℕ) → signed result m ≡ hmac_of key.now m }
     {
         let block = key_block(key);
         HmacKey {

@@ -1,24 +1,39 @@
 -- No pair is accepted twice, of any log.
-use Rattle.std.proofs.Common.{◌≡◌, ℕ, true, not, List, [], ◌∷◌, is_ok, sym, ap, ◌∙◌, ⊎_elim}
-use Rattle.std.proofs.lemmas.Bool.{true≢false, cases_Bool}
+use Rattle.std.proofs.Common.{◌≡◌, ℕ, Bool, true, false, not, List, [], ◌∷◌, is_ok, sym, refl, ◌∙◌, subst, ⊎_elim}
+use Rattle.std.proofs.lemmas.Bool.{true≢false, false≢true, cases_Bool}
+use Rattle.answers.specs.Successions.Succession.{then}
 use Rattle.token_log.specs.Log.{Bars, Query, Answer, Answered}
-use Rattle.token_log.specs.Laws.{Call, Leads, Unasked, EachOnce}
+use Rattle.token_log.specs.Successions.{Call, Leads, Under}
+use Rattle.token_log.specs.Laws.{Unasked, EachOnce}
 
 module _ {L : Type 0} (R : L → Query → Answer → L → Type 0) (bars : L → Bars)
     (tied : (s s' : L) (x : Query) (r : Answer) → R s x r s' → Answered x (is_ok r) (bars s) (bars s')) (t : ℕ) where
-  -- what is barred is not accepted from then on
-  barred_on : (ks : List Call) (s s'' : L) (low issued : ℕ) → Leads R t s ks s'' → bars s t low issued ≡ true → Unasked low issued ks
-  barred_on [] s s'' low issued w b = tt
-  barred_on (k ∷ ks) s s'' low issued w b =
-      let a = tied s w.0 _ k.answer w.1 in
-      let later : bars w.0 t low issued ≡ true =
-      ⊎_elim (λ y. a.kept y low issued b) (λ n. a.same n t low issued ∙ b) (cases_Bool (is_ok k.answer)) in (
-        (λ y p q. let e : bars s t k.low k.issued ≡ true = rw (p, q) b in true≢false (sym y ∙ a.answer ∙ ap not e)),
-        barred_on ks w.0 s'' low issued w.2 later,
+  -- a call under t, told by what t bars
+  told : (s s' : L) (k : Call) → k.query.lifetime ≡ t → R s k.query k.answer s'
+      → Answered (record { low = k.query.low; issued = k.query.issued; lifetime = t }) (is_ok k.answer) (bars s) (bars s')
+  told s s' k e w =
+      let P : ℕ → Type 0 = λ z. Answered (record { low = k.query.low; issued = k.query.issued; lifetime = z }) (is_ok k.answer) (bars s) (bars s') in
+      subst P e (tied s s' k.query k.answer w)
+
+  -- what is not barred was not accepted before
+  unasked : (ks : List Call) (s s' : L) (low issued : ℕ) → Leads R s ks s' → Under t ks → bars s' t low issued ≡ false → Unasked low issued ks
+  unasked [] s s' low issued w u b = tt
+  unasked (k ∷ ks) s s'' low issued (then {s' = s'} w v) u b =
+      let a = told s' s'' k u.0 v in
+      let earlier : bars s' t low issued ≡ false =
+      ⊎_elim (λ y. absurd (false≢true (sym b ∙ ⊎_elim (λ z. a.kept z low issued y) (λ n. a.same n t low issued ∙ y) (cases_Bool (is_ok k.answer))))) (λ n. n)
+      (cases_Bool (bars s' t low issued)) in (
+        (λ y p q. let e : bars s'' t low issued ≡ true = rw (← p, ← q) (a.barred y) in true≢false (sym e ∙ b)),
+        unasked ks s s' low issued w u.1 earlier,
       )
 
-  pub once : (ks : List Call) (s s'' : L) → Leads R t s ks s'' → EachOnce ks
-  once [] s s'' w = tt
-  once (k ∷ ks) s s'' w =
-      let a = tied s w.0 _ k.answer w.1 in
-      ((λ y. barred_on ks w.0 s'' k.low k.issued w.2 (a.barred y)), once ks w.0 s'' w.2)
+  opposite : (a b : Bool) → a ≡ not b → a ≡ true → b ≡ false
+  opposite a true e y = absurd (false≢true (sym e ∙ y))
+  opposite a false e y = refl
+
+  pub once : (ks : List Call) (s s' : L) → Leads R s ks s' → Under t ks → EachOnce ks
+  once [] s s' w u = tt
+  once (k ∷ ks) s s'' (then {s' = s'} w v) u = (
+    (λ y. unasked ks s s' k.query.low k.query.issued w u.1 (opposite _ _ (told s' s'' k u.0 v).answer y)),
+    once ks s s' w u.1,
+  )

@@ -1,9 +1,14 @@
-ghost use Rattle.std.specs.Prelude.{◌≡◌, ℕ, ◌≤◌, true, IfOk};
-ghost use Rattle.bloom.specs.Sizes.{half as half_of, Largest};
+ghost use Rattle.std.specs.Prelude.{◌≡◌, ℕ, ◌*◌, ◌≤◌, true, List, IfOk};
+ghost use Rattle.bloom.specs.Sizes.{half as half_of, fits_hashes, Largest};
 ghost use Rattle.bloom.specs.HashCount.{hash_count};
-ghost use Rattle.token_log.specs.Budgets.{suits as suits_for, suits_both, JustSuits, fits_hashes, Generation, Makes};
+ghost use Rattle.token_log.specs.Budgets.{suits as suits_for, suits_both, JustSuits, GivesBack, Generation, Within, Budgeted, Makes, MakesUnused};
+ghost use Rattle.token_log.specs.Successions.{Call, Leads};
+ghost use Rattle.token_log.specs.declared.two_generations.TwoGenerationLog.{TwoGenerationLog};
+ghost use Rattle.filter.specs.declared.exact.ExactSet.{ExactSet};
+ghost use Rattle.filter.specs.declared.turning.TurningFilter.{TurningFilter};
+ghost use Rattle.bloom.specs.declared.bloom.BloomFilter.{BloomFilter};
 
-use crate::TwoGenerationLog;
+use crate::{MAX_LIFETIME_NANOS, NANOS_PER_SECOND, TokenLog, TwoGenerationLog};
 use answers::{Refusal, Refused};
 use bloom::{
     BloomFilter, MAX_BUDGET, MAX_HASHES, allocate_words, bloom_words, optimal_k_num, sure_count,
@@ -11,30 +16,45 @@ use bloom::{
 use filter::{ExactSet, Places, TurningFilter};
 use std::alloc::{AllocError, Global};
 
-// The log of two generations of turning filters: each begins as a set and goes over to a Bloom filter.
+/// The log of two generations of turning filters: each begins as a set and goes over to a Bloom filter.
 pub type BloomTokenLog = TwoGenerationLog<TurningFilter<ExactSet, BloomFilter>>;
 
-// The byte budget and the expected hits of a log whose maker has no wish of their own.
+/// The budget in bytes of a log whose maker has no wish of their own.
 pub const DEFAULT_BUDGET: u32 = 10_485_760;
 
+/// The expected hits of such a log.
 pub const DEFAULT_HITS: u32 = 1_000_000;
 
-// Memory for one generation.
+/// Memory for one generation: the places of its set, and the words of its Bloom filter.
 #[derive(Drop)]
 pub struct GenerationMemory {
     pub places: Places,
     pub words: Vec<u64>,
 }
 
-// Memory for a log.
+/// Memory for a log, for each of its generations.
 #[derive(Drop)]
 pub struct LogMemory {
     pub one: GenerationMemory,
     pub two: GenerationMemory,
 }
 
+/// The defaults, a second, and the longest lifetime are those of the rules.
+pub fn the_limits_are_those_of_the_rules()
+    ensures budget { DEFAULT_BUDGET ≡ 10485760 }
+    ensures hits { DEFAULT_HITS ≡ 1000000 }
+    ensures second { NANOS_PER_SECOND ≡ 1000000000 }
+    ensures lifetime { MAX_LIFETIME_NANOS ≡ 1073741824 * NANOS_PER_SECOND }
+{}
+
+/// Of a log from a budget, whatever calls it was asked, the memory that comes back is enough for a log of that budget again:
+/// none is refused by 7.
+pub fn a_log_gives_back_enough_for_another()
+    ensures { (budget k c : ℕ) (s s' : TwoGenerationLog (TurningFilter ExactSet BloomFilter)) (ks : List Call) (g : LogMemory) → Budgeted budget k c s → Leads (⟦<BloomTokenLog as TokenLog>⟧.logs) s ks s' → GivesBack s'.one g.one → GivesBack s'.two g.two → suits_both budget c g ≡ true }
+{}
+
 impl GenerationMemory {
-    // Memory for a generation under a byte budget.
+    /// Memory for a generation under a budget in bytes, and no more: 28 bytes for each place of its set, and the words.
     pub fn allocate(heap: Global, budget: u32) -> Result<GenerationMemory, AllocError>
         ensures enough { IfOk result (λ g. (c : ℕ) → Largest (half_of budget) c → suits_for budget c g ≡ true) }
         ensures no_more { IfOk result (λ g. (c : ℕ) → Largest (half_of budget) c → JustSuits budget c g) }
@@ -44,7 +64,7 @@ impl GenerationMemory {
         Ok(GenerationMemory { places, words })
     }
 
-    // Whether it is enough for a byte budget.
+    /// Whether it is enough for a budget in bytes.
     pub fn suits(&self, budget: u32) -> bool
         ensures { (c : ℕ) → Largest (half_of budget) c → result ≡ suits_for budget c self.now }
     {
@@ -54,7 +74,7 @@ impl GenerationMemory {
 }
 
 impl LogMemory {
-    // Memory for a log under a byte budget.
+    /// Memory for a log under a budget in bytes, and no more.
     pub fn allocate(heap: Global, budget: u32) -> Result<LogMemory, AllocError>
         ensures enough { IfOk result (λ g. (c : ℕ) → Largest (half_of budget) c → suits_both budget c g ≡ true) }
         ensures no_more { IfOk result (λ g. (c : ℕ) → Largest (half_of budget) c → JustSuits budget c g.one × JustSuits budget c g.two) }
@@ -62,6 +82,17 @@ impl LogMemory {
         let one = GenerationMemory::allocate(heap, budget)?;
         let two = GenerationMemory::allocate(heap, budget)?;
         Ok(LogMemory { one, two })
+    }
+}
+
+// The memory of a generation.
+fn give_back(generation: TurningFilter<ExactSet, BloomFilter>) -> GenerationMemory
+    ensures { GivesBack generation result }
+{
+    let (set, other) = generation.into_parts();
+    GenerationMemory {
+        places: set.into_places(),
+        words: other.into_words(),
     }
 }
 
@@ -73,10 +104,11 @@ fn generation(
     memory: GenerationMemory,
 ) -> TurningFilter<ExactSet, BloomFilter>
     requires hashes { fits_hashes k ≡ true }
-    requires budgets { budget ≤ 16777216 }
+    requires budgets { budget ≤ MAX_BUDGET }
     requires sures { Largest (half_of budget) sure }
     requires enough { suits_for budget sure memory ≡ true }
-    ensures { Generation budget k sure result }
+    ensures made { Generation budget k sure result }
+    ensures within { Within memory result }
 {
     let GenerationMemory { places, words } = memory;
     let set = ExactSet::new(sure + 1, places).unwrap();
@@ -85,13 +117,15 @@ fn generation(
 }
 
 impl BloomTokenLog {
-    // An unused log for a byte budget, with k positions from 1 to 64, in memory that is enough for it.
+    /// An unused log for a budget in bytes, with k hash positions. Refused by 5 for a k outside 1 to 64, then by 7 for a budget
+    /// over 16,777,216 or too little memory for either generation; the memory then comes back as it was.
     pub fn with_hashes(
         budget: u32,
         k: u32,
         memory: LogMemory,
     ) -> Result<BloomTokenLog, Refused<LogMemory>>
-        ensures { Makes budget k memory result }
+        ensures makes { Makes budget k memory result }
+        ensures unused { MakesUnused budget result }
     {
         if k == 0 || k > MAX_HASHES {
             return Err(Refused {
@@ -114,20 +148,36 @@ impl BloomTokenLog {
         })
     }
 
-    // The same with as many positions as suit the expected hits.
+    /// The same with as many positions as suit the expected hits. Refused by 5 where these are more than 64.
     pub fn with_expected_hits(
         budget: u32,
         hits: u32,
         memory: LogMemory,
     ) -> Result<BloomTokenLog, Refused<LogMemory>>
-        ensures { Makes budget (hash_count budget hits) memory result }
+        ensures makes { Makes budget (hash_count budget hits) memory result }
+        ensures unused { MakesUnused budget result }
     {
         BloomTokenLog::with_hashes(budget, optimal_k_num(budget, hits), memory)
     }
 
-    // The same for the default budget and hits.
+    /// Takes the log apart: the memory of both generations comes back as it stands, whatever calls were made, and is enough for
+    /// a log of the same budget again.
+    pub fn into_memory(self) -> LogMemory
+        ensures one { GivesBack self.one result.one }
+        ensures two { GivesBack self.two result.two }
+    {
+        let (one, two) = self.into_generations();
+        LogMemory {
+            one: give_back(one),
+            two: give_back(two),
+        }
+    }
+
+    /// An unused log for the default budget and hits, with as many positions as suit these. Refused by 7 for too little memory; it
+    /// then comes back as it was.
     pub fn with_defaults(memory: LogMemory) -> Result<BloomTokenLog, Refused<LogMemory>>
-        ensures { Makes 10485760 (hash_count 10485760 1000000) memory result }
+        ensures makes { Makes DEFAULT_BUDGET (hash_count DEFAULT_BUDGET DEFAULT_HITS) memory result }
+        ensures unused { MakesUnused DEFAULT_BUDGET result }
     {
         BloomTokenLog::with_expected_hits(DEFAULT_BUDGET, DEFAULT_HITS, memory)
     }

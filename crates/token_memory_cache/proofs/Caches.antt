@@ -1,25 +1,26 @@
 -- The cache on lists does what a store does.
-use Rattle.std.proofs.Common.{◌≡◌, ℕ, ◌<◌, ◌≤◌, Bool, true, false, cond, ◌&&◌, ◌||◌, if◌then◌else◌, nat_eq, nat_le, ◌⊎◌, List, [], ◌∷◌, ◌++◌, length, drop, Some, None, Option, sym, refl, ap, ap₂, ◌∙◌, subst, inl, inr, ⊎_elim, arith}
+use Rattle.std.proofs.Common.{◌≡◌, ℕ, ◌<◌, ◌≤◌, Bool, true, false, cond, ◌&&◌, ◌||◌, if◌then◌else◌, nat_eq, nat_le, ◌⊎◌, List, [], ◌∷◌, ◌++◌, length, drop, Some, None, Ok, Option, sym, refl, ap, ap₂, ◌∙◌, subst, inl, inr, ⊎_elim, arith}
 use Rattle.std.specs.List.{list_all}
 use Rattle.std.specs.Str.{bytes_eq}
 use Rattle.std.proofs.lemmas.Bool.{false≢true, and_parts, and_from, or_parts, or_cases, or_from, or_left, or_right, not-true, not_from_false, cond-true, cond-false, cond_both, cases_Bool, leb-true, leb-false, le-leb, lt-leb, eqb-false, ne_eqb}
 use Rattle.std.proofs.lemmas.List.{length_push, length-drop}
 use Rattle.std.proofs.lemmas.Slice.Eq.{bytes_eq-Decides}
+use Rattle.answers.specs.Buffers.{fronted}
 use Rattle.token_store.specs.Store.Stores.{inserts}
 use Rattle.token_store.specs.Store.Takes.{none, some as handing}
-use Rattle.token_store.specs.Store.{Bytes, Inserted}
-use Rattle.token_memory_cache.specs.Cache.{Entry, has, named, tokens_of, without, holding, added, others_of, stored, oldest, rest, handed_out, taken, apart, some, sound, fits, shorts, short, Kept, Removed, TheCacheOnListsIsAStore}
+use Rattle.token_store.specs.Store.{Bytes, Holds, Alike, Inserted, Handed, Stores, Takes}
+use Rattle.token_memory_cache.specs.Cache.{Entry, has, named, tokens_of, without, holding, added, others_of, stored, oldest, rest, handed_out, taken, apart, some, sound, fits, shorts, short, Kept}
 
-same_refl : (x : Bytes) → bytes_eq x x ≡ true
+pub same_refl : (x : Bytes) → bytes_eq x x ≡ true
 same_refl x = (bytes_eq-Decides x x).1 refl
 
 pub same_true : (x y : Bytes) → bytes_eq x y ≡ true → x ≡ y
 same_true x y = (bytes_eq-Decides x y).0
 
-same_ne : (x y : Bytes) → (x ≡ y → ⊥) → bytes_eq x y ≡ false
+pub same_ne : (x y : Bytes) → (x ≡ y → ⊥) → bytes_eq x y ≡ false
 same_ne x y n = ⊎_elim (λ e. absurd (n (same_true x y e))) (λ e. e) (cases_Bool _)
 
-same_swap : (x y : Bytes) → bytes_eq x y ≡ false → bytes_eq y x ≡ false
+pub same_swap : (x y : Bytes) → bytes_eq x y ≡ false → bytes_eq y x ≡ false
 same_swap x y e = same_ne y x (λ d. false≢true (sym e ∙ (bytes_eq-Decides x y).1 (sym d)))
 
 or_nil : (b : Bool) → (b || false) ≡ b
@@ -56,11 +57,11 @@ tokens_by P test empty each n (e ∷ es) h =
     cond_both (bytes_eq n e.name) e.tokens (tokens_of n es) P (λ _. each e p.0) (λ _. tokens_by P test empty each n es p.1)
 
 -- the tokens of one name
-has_push : (ts : List Bytes) (t u : Bytes) → has u (ts ++ t ∷ []) ≡ (has u ts || bytes_eq u t)
+pub has_push : (ts : List Bytes) (t u : Bytes) → has u (ts ++ t ∷ []) ≡ (has u ts || bytes_eq u t)
 has_push [] t u = or_nil _
 has_push (x ∷ ts) t u = ap (λ b. bytes_eq u x || b) (has_push ts t u) ∙ or_assoc (bytes_eq u x) (has u ts) (bytes_eq u t)
 
-has-drop : (ts : List Bytes) (u : Bytes) → has u (drop 1 ts) ≡ true → has u ts ≡ true
+pub has-drop : (ts : List Bytes) (u : Bytes) → has u (drop 1 ts) ≡ true → has u ts ≡ true
 has-drop [] u h = h
 has-drop (x ∷ ts) u h = or_right _ _ h
 
@@ -88,7 +89,7 @@ some-has [] t h = h
 some-has (x ∷ ts) t h = refl
 
 -- a token added: the tokens stay, or it is pushed to them or to all but the oldest
-added_by : (P : List Bytes → Type 0) (k : ℕ) (t : Bytes) (ts : List Bytes) → (has t ts ≡ true → P ts)
+pub added_by : (P : List Bytes → Type 0) (k : ℕ) (t : Bytes) (ts : List Bytes) → (has t ts ≡ true → P ts)
     → (has t ts ≡ false → k ≤ length ts → P (drop 1 ts ++ t ∷ [])) → (has t ts ≡ false → length ts < k → P (ts ++ t ∷ [])) → P (added k t ts)
 added_by P k t ts held full room =
     cond_both (has t ts) ts _ P held
@@ -126,12 +127,12 @@ named-without n m (e ∷ es) h =
     cond_both (bytes_eq n e.name) (without n es) (e ∷ without n es) (λ xs. named m xs ≡ false) (λ _. named-without n m es p.1)
     (λ _. or_from _ _ p.0 (named-without n m es p.1))
 
-named_without_same : (n : Bytes) (es : List Entry) → named n (without n es) ≡ false
+pub named_without_same : (n : Bytes) (es : List Entry) → named n (without n es) ≡ false
 named_without_same n [] = refl
 named_without_same n (e ∷ es) =
     cond_both (bytes_eq n e.name) (without n es) (e ∷ without n es) (λ xs. named n xs ≡ false) (λ _. named_without_same n es) (λ d. or_from _ _ d (named_without_same n es))
 
-named-drop : (es : List Entry) (m : Bytes) → named m es ≡ false → named m (drop 1 es) ≡ false
+pub named-drop : (es : List Entry) (m : Bytes) → named m es ≡ false → named m (drop 1 es) ≡ false
 named-drop [] m h = h
 named-drop (e ∷ es) m h = (or_parts _ _ h).1
 
@@ -146,18 +147,18 @@ tokens_none m (e ∷ es) h = let p = or_parts _ _ h in cond-false _ _ _ p.0 ∙ 
 named_some : (n t : Bytes) (ts : List Bytes) (es : List Entry) → tokens_of n es ≡ t ∷ ts → named n es ≡ true
 named_some n t ts es e = ⊎_elim (λ d. d) (λ d. let z = tokens_none n es d in let y : ◌≡◌ {A = ℕ} 0 1 = cc in absurd (omega arith)) (cases_Bool (named n es))
 
-tokens_without : (n m : Bytes) (es : List Entry) → bytes_eq m n ≡ false → tokens_of m (without n es) ≡ tokens_of m es
+pub tokens_without : (n m : Bytes) (es : List Entry) → bytes_eq m n ≡ false → tokens_of m (without n es) ≡ tokens_of m es
 tokens_without n m [] d = refl
 tokens_without n m (e ∷ es) d =
     cond_both (bytes_eq n e.name) (without n es) (e ∷ without n es) (λ xs. tokens_of m xs ≡ tokens_of m (e ∷ es))
     (λ s. tokens_without n m es d ∙ sym (cond-false _ _ _ (rw (same_true n e.name s) at d)))
     (λ s. ap (λ x. cond (bytes_eq m e.name) e.tokens x) (tokens_without n m es d))
 
-tokens_push_other : (es : List Entry) (e : Entry) (m : Bytes) → bytes_eq m e.name ≡ false → tokens_of m (es ++ e ∷ []) ≡ tokens_of m es
+pub tokens_push_other : (es : List Entry) (e : Entry) (m : Bytes) → bytes_eq m e.name ≡ false → tokens_of m (es ++ e ∷ []) ≡ tokens_of m es
 tokens_push_other [] e m d = cond-false _ _ _ d
 tokens_push_other (x ∷ es) e m d = ap (λ y. cond (bytes_eq m x.name) x.tokens y) (tokens_push_other es e m d)
 
-tokens_push_same : (es : List Entry) (e : Entry) (m : Bytes) → named m es ≡ false → bytes_eq m e.name ≡ true → tokens_of m (es ++ e ∷ []) ≡ e.tokens
+pub tokens_push_same : (es : List Entry) (e : Entry) (m : Bytes) → named m es ≡ false → bytes_eq m e.name ≡ true → tokens_of m (es ++ e ∷ []) ≡ e.tokens
 tokens_push_same [] e m h d = cond-true _ _ _ d
 tokens_push_same (x ∷ es) e m h d = let p = or_parts _ _ h in cond-false _ _ _ p.0 ∙ tokens_push_same es e m p.1 d
 
@@ -171,7 +172,7 @@ tokens_drop (e ∷ es) m u s h =
     (λ _. h)
 
 -- sound entries
-apart_of : (es : List Entry) (n : Bytes) → sound es ≡ true → apart (tokens_of n es) ≡ true
+pub apart_of : (es : List Entry) (n : Bytes) → sound es ≡ true → apart (tokens_of n es) ≡ true
 apart_of [] n s = refl
 apart_of (e ∷ es) n s =
     let p = and_parts _ _ s in
@@ -212,7 +213,7 @@ length_less n (e ∷ es) d =
     cond_both (bytes_eq n e.name) (without n es) (e ∷ without n es) (λ xs. length xs < length (e ∷ es)) (λ _. omega arith)
     (λ s. ⊎_elim (λ q. absurd (false≢true (sym s ∙ q))) (λ q. omega (arith, length_less n es q)) (or_cases _ _ d))
 
-positive : (a b : ℕ) → (nat_eq a 0 || nat_eq b 0) ≡ false → (0 < a) × (0 < b)
+pub positive : (a b : ℕ) → (nat_eq a 0 || nat_eq b 0) ≡ false → (0 < a) × (0 < b)
 positive a b e =
     let p = or_parts _ _ e in
     let x : a ≡ 0 → ⊥ = eqb-false a 0 p.0 in
@@ -261,6 +262,10 @@ inserted names tokens n t es s =
     (λ _ _ z _. into_new n t es (drop 1 es) (named-drop es n z) (λ m u. tokens_drop es m u s)) (λ _ _ z _. into_new n t es es z (λ m u h. h))
 
 -- a take removes what it hands out
+abbrev Removed : Bytes → Option Bytes → Holds → Holds → Type 0
+Removed n None h h' = Alike h h'
+Removed n (Some t) h h' = Handed n t h h'
+
 not_first : (t u : Bytes) (ts : List Bytes) → (u ≡ t → ⊥) → has u (t ∷ ts) ≡ has u ts
 not_first t u ts n = let e = same_ne u t n in rw e
 
@@ -379,7 +384,16 @@ oldest-short (x ∷ ts) t e s =
     let l : length x ≤ 512 = leb-true _ _ (and_parts _ _ s).0 in
     rw d at l
 
-pub lists_are_a_store : TheCacheOnListsIsAStore
+-- a cache that goes by these lists is a store, and keeps to its limits
+pub record TheListsAreAStore (names tokens : ℕ) (es : List Entry) : Type 0 where
+  pub stores : (n t : Bytes) → length n ≤ 255 → length t ≤ 512 → Stores n t (holding es) (holding (stored names tokens n t es)) (Ok tt)
+  pub hands : (n t out : Bytes) → 512 ≤ length out → length n ≤ 255 → handed_out n es ≡ Some t
+      → Takes n out (fronted t out) (holding es) (holding (taken n es)) (Ok (Some (length t)))
+  pub none : (n out : Bytes) → 512 ≤ length out → length n ≤ 255 → handed_out n es ≡ None → Takes n out out (holding es) (holding (taken n es)) (Ok None)
+  pub kept_stored : (n t : Bytes) → length n ≤ 255 → length t ≤ 512 → Kept names tokens (stored names tokens n t es)
+  pub kept_taken : (n : Bytes) → length n ≤ 255 → Kept names tokens (taken n es)
+
+pub lists_are_a_store : (names tokens : ℕ) (es : List Entry) → Kept names tokens es → TheListsAreAStore names tokens es
 lists_are_a_store names tokens es k = record {
   stores = λ n t a b. inserts a b (inserted names tokens n t es k.0);
   hands = λ n t out a b e. handing a b t (oldest-short (tokens_of n es) t e (shorts_of names tokens es k n)) refl (removed names tokens es k n (Some t) e);

@@ -2,5 +2,11 @@ pub mod Caches
 pub mod Finding
 pub mod Texts
 pub mod Shelving
+pub mod Lending
 pub mod Storing
 pub mod Steps
+pub mod Rising
+pub mod Taking
+pub mod Turns
+pub mod Ageing
+pub mod Histories

@@ -6,19 +6,17 @@ use Rattle.std.proofs.lemmas.List.{length-take-le, length-drop}
 use Rattle.std.proofs.Math.Nat.{mul-le-mul_right}
 use Rattle.record_pool.specs.declared.chain.Chain.{Chain}
 use Rattle.record_pool.specs.Chains.{empty_chain, without as cut}
-use Rattle.record_pool.specs.Pools.{items, links}
+use Rattle.record_pool.specs.Pools.{items}
 use Rattle.record_pool.proofs.Divisions.{without_empty, all_counted}
-use Rattle.record_pool.proofs.Sharing.{with_empty}
 use Rattle.token_store.specs.Store.{Bytes}
 use Rattle.token_memory_cache.specs.Cache.{Entry, others_of, named, tokens_of, without, added, stored, oldest, rest, taken, some, sound, fits, Kept}
+use Rattle.token_memory_cache.specs.Lent.{nobody}
 use Rattle.token_memory_cache.specs.declared.shelf.Shelf.{Shelf}
 use Rattle.token_memory_cache.specs.Shelves.{listed, chains, entry_in, entries, Stands, SameSize, TakenOff, Becomes, Opened, Refilled, Room, Sound, Took}
 use Rattle.token_memory_cache.proofs.Caches.{stored_is, fits_others, length-others, tokens_none, fits_of, kept_stored, kept_rest, some_of}
 use Rattle.token_memory_cache.proofs.Finding.{At}
+use Rattle.token_memory_cache.proofs.Lending.{beside}
 use Rattle.token_memory_cache.proofs.Shelving.{length-items}
-
-nobody : Entry
-nobody = record { name = []; tokens = [] }
 
 pub opened_found : (names : ℕ) (n : Bytes) (s m : Shelf) (c : Chain) (k : ℕ) → At n (entries s) k → TakenOff k s m c → Opened names n s m c
 opened_found names n s m c k a t = record {
@@ -32,7 +30,8 @@ pub opened_new : (names : ℕ) (n : Bytes) (s m : Shelf) (es : List Entry) → n
 opened_new names n s m es a b e = record {
   stands = record {
     names = b.stands.names;
-    tokens = record { size = b.stands.tokens.size; shared = with_empty (length m.tokens.records.now) (links m.tokens.records.now) m.tokens.free (chains m) b.stands.tokens.shared };
+    tokens = beside m.tokens (chains m) b.stands.tokens;
+    blank = b.stands.blank;
   };
   left = b.left ∙ sym e;
   tokens = sym (tokens_none n (entries s) a);
@@ -113,7 +112,7 @@ back_room n s m m' c c' k ts st a t f =
 pub took_none : (n : Bytes) (s : Shelf) → named n (entries s) ≡ false → (names tokens : ℕ) → Sound names tokens s → Took names tokens n s s None
 took_none n s a names tokens h =
     let none = tokens_none n (entries s) a in
-    record { sound = h; answer = sym (ap oldest none); left = sym (ap (rest n (entries s)) none) }
+    record { sound = h; answer = sym (ap oldest none); left = sym (ap (rest n (entries s)) none); size = record { names = refl; tokens = refl } }
 
 module _ (n : Bytes) (s m m' : Shelf) (c c' : Chain) (k : ℕ) (x : Bytes) (ln : length n ≤ 255) (a : At n (entries s) k) (t : TakenOff k s m c) (f : Refilled m m' c' (drop 1 (items m.tokens c)))
     (o : oldest (items m.tokens c) ≡ Some x) where
@@ -136,6 +135,7 @@ module _ (n : Bytes) (s m m' : Shelf) (c c' : Chain) (k : ℕ) (x : Bytes) (ln :
     };
     answer = sym o ∙ ap oldest had;
     left = e;
+    size = record { names = z.names ∙ f.size.names ∙ t.size.names; tokens = z.tokens ∙ f.size.tokens ∙ t.size.tokens };
   }
 
   pub took_more : (s' : Shelf) → 0 < c'.count → Becomes [] m' s' (entries m' ++ record { name = n; tokens = items m'.tokens c' } ∷ []) → (names tokens : ℕ) → Sound names tokens s → Took names tokens n s s' (Some x)
@@ -147,5 +147,5 @@ module _ (n : Bytes) (s m m' : Shelf) (c c' : Chain) (k : ℕ) (x : Bytes) (ln :
   pub took_last : c'.count ≡ 0 → (names tokens : ℕ) → Sound names tokens s → Took names tokens n s m' (Some x)
   took_last z names tokens h =
       let l = length-items m'.tokens c' (chains m') f.stands.tokens in
-      kept names tokens m' h (record { names = f.stands.names; tokens = without_empty m'.tokens c' (chains m') z f.stands.tokens })
+      kept names tokens m' h (record { names = f.stands.names; tokens = without_empty m'.tokens c' (chains m') z f.stands.tokens; blank = f.stands.blank })
       (others ∙ sym (rest_last n (entries s) (tokens_of n (entries s)) x (sym (ap oldest had) ∙ o) (omega (arith, ap length still)))) (record { names = refl; tokens = refl })

@@ -7,7 +7,9 @@ use Rattle.std.specs.Str.{bytes_eq}
 use Rattle.answers.specs.declared.Refusal.{Refusal}
 use Rattle.answers.specs.declared.Refusal.TheVariants.{SmallBuffer, LongEntry}
 use Rattle.answers.specs.Buffers.{fronted}
-use Rattle.token_store.specs.Store.{Bytes, Holds, Alike, Stores, Takes, Handed}
+use Rattle.token_store.specs.declared.TheConstants.{MAX_NAME_LEN, MAX_STORED_LEN}
+use Rattle.token_memory_cache.specs.declared.cache.TheConstants.{MAX_SERVER_NAMES, MAX_TOKENS_PER_SERVER}
+use Rattle.token_store.specs.Store.{Bytes, Holds}
 
 pub record Entry : Type 0 where
   pub name : Bytes
@@ -78,35 +80,38 @@ abbrev pub sound : List Entry → Bool
 sound [] = true
 sound (e ∷ es) = (not (named e.name es) && (apart e.tokens && some e.tokens)) && sound es
 
--- within the limit of tokens; names of at most 255 bytes, and tokens of at most 512
+-- within the limit of tokens; names and tokens that are not too long
 abbrev pub fits : ℕ → List Entry → Bool
 fits tokens = list_all (λ e. nat_le (length e.tokens) tokens)
 
 abbrev pub shorts : List Bytes → Bool
-shorts = list_all (λ t. nat_le (length t) 512)
+shorts = list_all (λ t. nat_le (length t) MAX_STORED_LEN)
 
 abbrev pub short : List Entry → Bool
-short = list_all (λ e. nat_le (length e.name) 255 && shorts e.tokens)
+short = list_all (λ e. nat_le (length e.name) MAX_NAME_LEN && shorts e.tokens)
 
 -- what a cache keeps to at its limits
 abbrev pub Kept : ℕ → ℕ → List Entry → Type 0
 Kept names tokens es = (sound es ≡ true) × (short es ≡ true) × (length es ≤ names) × (fits tokens es ≡ true)
 
--- a cache: how many names and how many tokens a name it may hold, and what it holds
+-- a cache: how many names and how many tokens a name it may hold, how many records it was lent for names and for tokens, and
+-- what it holds
 pub record Cache : Type 0 where
   pub names : ℕ
   pub tokens : ℕ
+  pub name_records : ℕ
+  pub token_records : ℕ
   pub entries : List Entry
 
 -- whether a cache may be made with these limits, in so many records for names and for tokens
 abbrev pub allowed : ℕ → ℕ → ℕ → ℕ → Bool
 allowed names tokens name_records token_records =
-    (nat_le names 1024 && nat_le tokens 16) && (nat_le names name_records && nat_le (names * tokens) token_records)
+    (nat_le names MAX_SERVER_NAMES && nat_le tokens MAX_TOKENS_PER_SERVER) && (nat_le names name_records && nat_le (names * tokens) token_records)
     && (nat_lt name_records (2 ^ 32) && nat_lt token_records (2 ^ 32))
 
 -- an insert: its answer, and what it leaves
 abbrev pub long_entry : Bytes → Bytes → Bool
-long_entry n t = nat_lt 255 (length n) || nat_lt 512 (length t)
+long_entry n t = nat_lt MAX_NAME_LEN (length n) || nat_lt MAX_STORED_LEN (length t)
 
 abbrev pub insert_answer : Bytes → Bytes → Result (Unit {0}) Refusal
 insert_answer n t = if long_entry n t then Err LongEntry else Ok tt
@@ -116,31 +121,14 @@ inserted n t c = if long_entry n t then c else record c { entries = stored c.nam
 
 -- a take: its answer, what it leaves, and the buffer
 abbrev pub take_answer : Bytes → List ℕ → Cache → Result (Option ℕ) Refusal
-take_answer n out c = if nat_lt (length out) 512 then Err SmallBuffer else if nat_lt 255 (length n) then Err LongEntry else Ok (option_map length (handed_out n c.entries))
+take_answer n out c = if nat_lt (length out) MAX_STORED_LEN then Err SmallBuffer else if nat_lt MAX_NAME_LEN (length n) then Err LongEntry else Ok (option_map length (handed_out n c.entries))
 
 abbrev pub put_in_front : Option Bytes → List ℕ → List ℕ
 put_in_front None out = out
 put_in_front (Some t) out = fronted t out
 
 abbrev pub taken_into : Bytes → List ℕ → Cache → List ℕ
-taken_into n out c = if nat_lt (length out) 512 || nat_lt 255 (length n) then out else put_in_front (handed_out n c.entries) out
+taken_into n out c = if nat_lt (length out) MAX_STORED_LEN || nat_lt MAX_NAME_LEN (length n) then out else put_in_front (handed_out n c.entries) out
 
 abbrev pub taken_from : Bytes → List ℕ → Cache → Cache
-taken_from n out c = if nat_lt (length out) 512 || nat_lt 255 (length n) then c else record c { entries = taken n c.entries }
-
--- what a take does to a store, by what it hands out
-abbrev pub Removed : Bytes → Option Bytes → Holds → Holds → Type 0
-Removed n None h h' = Alike h h'
-Removed n (Some t) h h' = Handed n t h h'
-
--- a cache that goes by these lists is a store, and keeps to its limits
-pub record TheListsAreAStore (names tokens : ℕ) (es : List Entry) : Type 0 where
-  pub stores : (n t : Bytes) → length n ≤ 255 → length t ≤ 512 → Stores n t (holding es) (holding (stored names tokens n t es)) (Ok tt)
-  pub hands : (n t out : Bytes) → 512 ≤ length out → length n ≤ 255 → handed_out n es ≡ Some t
-      → Takes n out (fronted t out) (holding es) (holding (taken n es)) (Ok (Some (length t)))
-  pub none : (n out : Bytes) → 512 ≤ length out → length n ≤ 255 → handed_out n es ≡ None → Takes n out out (holding es) (holding (taken n es)) (Ok None)
-  pub kept_stored : (n t : Bytes) → length n ≤ 255 → length t ≤ 512 → Kept names tokens (stored names tokens n t es)
-  pub kept_taken : (n : Bytes) → length n ≤ 255 → Kept names tokens (taken n es)
-
-abbrev pub TheCacheOnListsIsAStore : Type 0
-TheCacheOnListsIsAStore = (names tokens : ℕ) (es : List Entry) → Kept names tokens es → TheListsAreAStore names tokens es
+taken_from n out c = if nat_lt (length out) MAX_STORED_LEN || nat_lt MAX_NAME_LEN (length n) then c else record c { entries = taken n c.entries }

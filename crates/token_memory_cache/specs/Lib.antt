@@ -1,3 +1,5 @@
 pub mod Cache
 pub mod Texts
+pub mod Lent
 pub mod Shelves
+pub mod Histories

@@ -5,7 +5,8 @@ use Rattle.token_store.specs.Store.{Bytes}
 use Rattle.record_pool.specs.declared.chain.Chain.{Chain}
 use Rattle.record_pool.specs.declared.pool.Pool.{Pool}
 use Rattle.record_pool.specs.Pools.{items, Divided}
-use Rattle.token_memory_cache.specs.Cache.{Entry, others_of, tokens_of, fits, Kept, handed_out, taken}
+use Rattle.token_memory_cache.specs.Cache.{Entry, Cache, others_of, tokens_of, fits, Kept, handed_out, taken}
+use Rattle.token_memory_cache.specs.Lent.{blank_name, entry_at}
 use Rattle.token_memory_cache.specs.declared.shelf.NameEntry.{NameEntry}
 use Rattle.token_memory_cache.specs.declared.shelf.Shelf.{Shelf}
 
@@ -17,15 +18,21 @@ abbrev pub chains : Shelf → List Chain
 chains s = map (λ e. e.tokens) (listed s)
 
 abbrev pub entry_in : Pool Bytes → NameEntry → Entry
-entry_in tokens e = record { name = e.name; tokens = items tokens e.tokens }
+entry_in tokens = entry_at tokens.records.now
 
 abbrev pub entries : Shelf → List Entry
 entries s = map (entry_in s.tokens) (listed s)
 
--- the records of the names are in one chain, and those of the tokens in a chain for each name, with these chains beside
+-- a shelf as a cache at these limits
+abbrev pub cache_of : ℕ → ℕ → Shelf → Cache
+cache_of names tokens s = record { names = names; tokens = tokens; name_records = length s.names.records.now; token_records = length s.tokens.records.now; entries = entries s }
+
+-- the records of the names are in one chain, and those of the tokens in a chain for each name, with these chains beside;
+-- what is free is blank
 pub record Stands (loose : List Chain) (s : Shelf) : Type 0 where
   pub names : Divided s.names (s.used ∷ [])
   pub tokens : Divided s.tokens (loose ++ chains s)
+  pub blank : (s.names.blank ≡ blank_name) × (s.tokens.blank ≡ [])
 
 -- no record came or went
 pub record SameSize (s s' : Shelf) : Type 0 where
@@ -78,3 +85,4 @@ pub record Took (names tokens : ℕ) (n : Bytes) (s s' : Shelf) (r : Option Byte
   pub sound : Sound names tokens s'
   pub answer : r ≡ handed_out n (entries s)
   pub left : entries s' ≡ taken n (entries s)
+  pub size : SameSize s s'

@@ -4,16 +4,16 @@ ghost use Rattle.record_pool.specs.Pools.{items};
 ghost use Rattle.record_pool.specs.Chains.{empty_chain};
 ghost use Rattle.token_memory_cache.specs.Cache.{sound, oldest, added, stored};
 ghost use Rattle.std.specs.Str.{bytes_eq};
-ghost use Rattle.token_memory_cache.specs.Shelves.{listed, entries, Stands, TakenOff, Becomes, Opened, Room, Refilled, Sound, Took};
+ghost use Rattle.token_memory_cache.specs.Shelves.{listed, entries, Stands, TakenOff, Becomes, Opened, Room, Refilled, SameSize, Sound, Took};
 
 use crate::text::Text;
-use record_pool::{Chain, Pool};
-use token_store::{MAX_NAME, MAX_STORED};
+use record_pool::{Chain, Pool, Record};
+use token_store::{MAX_NAME_LEN, MAX_STORED_LEN};
 
 // A name, and the chain of its tokens, the oldest first.
 #[derive(Clone, Copy)]
 pub struct NameEntry {
-    name: Text<MAX_NAME>,
+    name: Text<MAX_NAME_LEN>,
     tokens: Chain,
 }
 
@@ -29,17 +29,26 @@ impl NameEntry {
     }
 }
 
+// The records that a cache is lent, for names and for tokens.
+pub type LentRecords<'a> = (
+    &'a mut [Record<NameEntry>],
+    &'a mut [Record<Text<MAX_STORED_LEN>>],
+);
+
 // Names with their tokens in records of two pools, the name least recently used first.
 #[derive(Drop)]
 pub(crate) struct Shelf<'a> {
     names: Pool<'a, NameEntry>,
-    tokens: Pool<'a, Text<MAX_STORED>>,
+    tokens: Pool<'a, Text<MAX_STORED_LEN>>,
     used: Chain,
 }
 
 impl<'a> Shelf<'a> {
     // No names, in pools that are all free.
-    pub(crate) fn new(names: Pool<'a, NameEntry>, tokens: Pool<'a, Text<MAX_STORED>>) -> Shelf<'a>
+    pub(crate) fn new(
+        names: Pool<'a, NameEntry>,
+        tokens: Pool<'a, Text<MAX_STORED_LEN>>,
+    ) -> Shelf<'a>
         ensures { result ≡ record { names = names.entry; tokens = tokens.entry; used = empty_chain } }
     {
         Shelf {
@@ -47,6 +56,22 @@ impl<'a> Shelf<'a> {
             tokens,
             used: Chain::new(),
         }
+    }
+
+    // The records of both pools.
+    pub(crate) fn lent(&self) -> (&[Record<NameEntry>], &[Record<Text<MAX_STORED_LEN>>])
+        ensures names { result.0.now ≡ self.now.names.records.now }
+        ensures tokens { result.1.now ≡ self.now.tokens.records.now }
+    {
+        (self.names.records(), self.tokens.records())
+    }
+
+    // The same, from which the shelf then goes.
+    pub(crate) fn into_records(self) -> LentRecords<'a>
+        ensures names { result.0.now ≡ self.entry.names.records.now }
+        ensures tokens { result.1.now ≡ self.entry.tokens.records.now }
+    {
+        (self.names.into_records(), self.tokens.into_records())
     }
 
     // Where a name stands among those used.
@@ -102,7 +127,7 @@ impl<'a> Shelf<'a> {
     }
 
     // Takes the oldest token out of a chain.
-    fn pop(&mut self, tokens: &mut Chain) -> Text<MAX_STORED>
+    fn pop(&mut self, tokens: &mut Chain) -> Text<MAX_STORED_LEN>
         requires stands { Stands (tokens.old ∷ []) self.old }
         requires some { 0 < tokens.old.count }
         ensures tokens { Refilled self.old self.new tokens.new (drop 1 (items self.old.tokens tokens.old)) }
@@ -144,6 +169,7 @@ impl<'a> Shelf<'a> {
         requires sound { Sound names tokens self.old }
         requires short { (length name.now ≤ 255) × (length token.now ≤ 512) }
         ensures sound { Sound names tokens self.new }
+        ensures size { SameSize self.old self.new }
         ensures entries { entries self.new ≡ stored names tokens name.now token.now (entries self.old) }
     {
         if names == 0 || tokens == 0 {
@@ -155,7 +181,7 @@ impl<'a> Shelf<'a> {
     }
 
     // Takes the oldest token of a name.
-    pub(crate) fn take(&mut self, name: &[u8]) -> Option<Text<MAX_STORED>>
+    pub(crate) fn take(&mut self, name: &[u8]) -> Option<Text<MAX_STORED_LEN>>
         requires stands { Stands [] self.old }
         requires apart { sound (entries self.old) ≡ true }
         requires short { length name.now ≤ 255 }

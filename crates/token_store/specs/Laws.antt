@@ -1,7 +1,8 @@
--- Successions of calls of a store that held nothing, and what every one of them keeps.
+-- Calls of a store that held nothing, and what every succession of them keeps.
 use Rattle.std.specs.Prelude.{◌≡◌, ℕ, Bool, true, false, ◌&&◌, List, [], ◌∷◌, take, is_ok, Some, None, Ok, Err, Option, Result, if◌then◌else◌}
 use Rattle.std.specs.Str.{bytes_eq}
 use Rattle.answers.specs.declared.Refusal.{Refusal}
+use Rattle.answers.specs.Successions.{Succession, Adds}
 use Rattle.token_store.specs.Store.{Bytes, Holds, Stores, Takes}
 
 -- a call: what it brought, what it was answered, and for a take the buffer before and after
@@ -9,18 +10,18 @@ pub data Call : Type 0 where
   insertion : (name token : Bytes) → Result (Unit {0}) Refusal → Call
   taking : (name out out' : Bytes) → Result (Option ℕ) Refusal → Call
 
-abbrev pub Step : Holds → Call → Holds → Type 0
-Step h (insertion n t r) h' = Stores n t h h' r
-Step h (taking n out out' r) h' = Takes n out out' h h' r
+-- one call, by what a store holds
+abbrev pub Step : {S : Type 0} → (S → Holds) → S → Call → S → Type 0
+Step holds s (insertion n t r) s' = Stores n t (holds s) (holds s') r
+Step holds s (taking n out out' r) s' = Takes n out out' (holds s) (holds s') r
 
--- calls that lead to the store s from one that holds nothing, the newest first
-pub data Succession {S : Type 0} (holds : S → Holds) : List Call → S → Type 0 where
-  nothing : {s : S} → ((n t : Bytes) → holds s n t ≡ false) → Succession holds [] s
-  then : {x : Call} {xs : List Call} {s s' : S} → Succession holds xs s → Step (holds s) x (holds s') → Succession holds (x ∷ xs) s'
+abbrev pub HoldsNothing : {S : Type 0} → (S → Holds) → S → Type 0
+HoldsNothing holds s = (n t : Bytes) → holds s n t ≡ false
 
--- every succession that leads to s, with the call x, leads to s'
-abbrev pub Adds : {S : Type 0} → (S → Holds) → Call → S → S → Type 0
-Adds holds x s s' = (xs : List Call) → Succession holds xs s → Succession holds (x ∷ xs) s'
+-- what a store owes of each call adds it to every succession
+pub record EveryCallAdds {S : Type 0} (holds : S → Holds) : Type 0 where
+  pub inserts : (s s' : S) (n t : Bytes) (r : Result (Unit {0}) Refusal) → Stores n t (holds s) (holds s') r → Adds (Step holds) (insertion n t r) s s'
+  pub takes : (s s' : S) (n out out' : Bytes) (r : Result (Option ℕ) Refusal) → Takes n out out' (holds s) (holds s') r → Adds (Step holds) (taking n out out' r) s s'
 
 -- whether an answer of a take hands out the token t: it stands at the front of the buffer
 abbrev pub handed : Bytes → Bytes → Result (Option ℕ) Refusal → Bool
@@ -48,4 +49,4 @@ OnlyAsStored [] = Unit {0}
 OnlyAsStored (x ∷ xs) = ((n t : Bytes) → takes n t x ≡ true → preceded n t xs ≡ true) × OnlyAsStored xs
 
 abbrev pub ATokenIsTakenOnlyAsOftenAsStored : {S : Type 0} → (S → Holds) → S → Type 0
-ATokenIsTakenOnlyAsOftenAsStored holds s = (xs : List Call) → Succession holds xs s → OnlyAsStored xs
+ATokenIsTakenOnlyAsOftenAsStored {S} holds s = (start : S) (xs : List Call) → HoldsNothing holds start → Succession (Step holds) start xs s → OnlyAsStored xs

@@ -2,7 +2,7 @@
 use Rattle.std.proofs.Common.{◌≡◌, ℕ, suc, ◌+◌, ◌^◌, ◌<◌, ◌≤◌, Bool, true, false, cond, nat_eq, nat_lt, ◌⊎◌, List, [], ◌∷◌, ◌++◌, length, get_or, take, drop, Ok, Err, Result, sym, refl, ap, ◌∙◌, inl, inr, ⊎_elim, arith, length-append}
 use Rattle.std.specs.Int.Digits.{number_from_digits}
 use Rattle.std.proofs.lemmas.Int.Digits.{number_lt}
-use Rattle.std.proofs.ByRecursion.{All-take, All-drop}
+use Rattle.std.proofs.ByRecursion.{All-take, All-drop, All-append}
 use Rattle.std.proofs.lemmas.List.{take_at, take-append-drop, drop_more, drop_all, append-nil, length-take-le, drop-drop}
 use Rattle.std.proofs.lemmas.Bool.{le-ltb, ltb-false, eq-eqb, eqb-true}
 use Rattle.answers.specs.declared.Fault.{Fault}
@@ -15,8 +15,8 @@ use Rattle.wire.specs.Fields.{Reader, and_then, octets, both}
 use Rattle.wire.specs.Content.{encode_ip, decode_ip, encode_port, decode_port, encode_addr, decode_addr, encode_id, decode_id, encode_time, decode_time, ended, encode_content, decode_retry, decode_validation}
 use Rattle.wire.specs.declared.types.TokenPayload.TheVariants.{Retry, Validation}
 use Rattle.wire.specs.declared.types.TokenPayload.{TokenPayload}
-use Rattle.wire.specs.Laws.{SoundIp, SoundAddr, DecodingUndoesEncoding, EachContentHasOneEncoding, ContentsAreShort}
-use Rattle.wire.proofs.Numbers.{length_big, big_back, big_only}
+use Rattle.wire.specs.Laws.{SoundIp, SoundAddr, SoundId, DecodingUndoesEncoding, EachContentHasOneEncoding, ContentsAreShort, ContentsAreBytes}
+use Rattle.wire.proofs.Numbers.{length_big, big_back, big_only, big_bytes}
 use Rattle.wire.proofs.Faithful.{apart, same_ok, then_ok, Only, moved, Faithful, both_faithful}
 
 -- a test that an answer has passed
@@ -42,17 +42,18 @@ octets_only n bs o h =
     (sym (take-append-drop n bs) ∙ ap (λ z. z ++ drop n bs) e, ap length (sym e) ∙ length-take-le n bs l, λ b. rw e at (All-take (λ z. z < 256) n bs b))
 
 -- one byte, and bytes behind it
-tagged : (bs o : List ℕ) (kind n : ℕ) → 1 ≤ length bs → get_or bs 0 0 ≡ kind → octets n (drop 1 bs) ≡ Ok o → (bs ≡ (kind ∷ o) ++ drop (1 + n) bs) × (length o ≡ n)
+tagged : (bs o : List ℕ) (kind n : ℕ) → 1 ≤ length bs → get_or bs 0 0 ≡ kind → octets n (drop 1 bs) ≡ Ok o
+    → (bs ≡ (kind ∷ o) ++ drop (1 + n) bs) × (length o ≡ n) × (Bytes bs → Bytes o)
 tagged bs o kind n some k h =
     let p = octets_only n (drop 1 bs) o h in
-    (drop_more bs 0 0 some ∙ ap (λ z. z ∷ drop 1 bs) k ∙ ap (λ z. kind ∷ z) (p.0 ∙ ap (λ z. o ++ z) (drop-drop n 1 bs)), p.1)
+    (drop_more bs 0 0 some ∙ ap (λ z. z ∷ drop 1 bs) k ∙ ap (λ z. kind ∷ z) (p.0 ∙ ap (λ z. o ++ z) (drop-drop n 1 bs)), p.1, λ b. p.2 (All-drop (λ z. z < 256) 1 bs b))
 
 some_bytes : (x : ℕ) (bs : List ℕ) → nat_lt (length (x ∷ bs)) 1 ≡ false
 some_bytes x bs = le-ltb (length (x ∷ bs)) 1 (omega arith)
 
 ip_back : (a : IpAddr) (rest : List ℕ) → SoundIp a → decode_ip (encode_ip a ++ rest) ≡ Ok (a, length (encode_ip a))
-ip_back (V4 o) rest s = let f = octets_back 4 o rest s in rw (some_bytes 0 (o ++ rest), f, s)
-ip_back (V6 o) rest s = let f = octets_back 16 o rest s in rw (some_bytes 1 (o ++ rest), f, s)
+ip_back (V4 o) rest s = let f = octets_back 4 o rest s.1 in rw (some_bytes 0 (o ++ rest), f, s.1)
+ip_back (V6 o) rest s = let f = octets_back 16 o rest s.1 in rw (some_bytes 1 (o ++ rest), f, s.1)
 
 ip_only : (bs : List ℕ) (a : IpAddr) (n : ℕ) → Bytes bs → decode_ip bs ≡ Ok (a, n) → Only SoundIp encode_ip bs a n
 ip_only bs a n bytes h =
@@ -61,11 +62,11 @@ ip_only bs a n bytes h =
     ⊎_elim
     (λ q. let u = then_ok (octets 4 (drop 1 bs)) _ (a, n) q.1 in
     let t = tagged bs u.0 0 4 some (eqb-true (get_or bs 0 0) 0 q.0) u.1 in
-    moved (record { long = omega (arith, t.1); same = t.0; sound = t.1 }) u.2)
+    moved (record { long = omega (arith, t.1); same = t.0; sound = (t.2 bytes, t.1) }) u.2)
     (λ q. ⊎_elim
     (λ r. let u = then_ok (octets 16 (drop 1 bs)) _ (a, n) r.1 in
     let t = tagged bs u.0 1 16 some (eqb-true (get_or bs 0 0) 1 r.0) u.1 in
-    moved (record { long = omega (arith, t.1); same = t.0; sound = t.1 }) u.2)
+    moved (record { long = omega (arith, t.1); same = t.0; sound = (t.2 bytes, t.1) }) u.2)
     (λ r. apart (IpKind (get_or bs 0 0)) (a, n) r.1)
     (one_of (nat_eq (get_or bs 0 0) 1) _ _ (a, n) q.1))
     (one_of (nat_eq (get_or bs 0 0) 0) _ _ (a, n) p.1)
@@ -121,17 +122,14 @@ time_only bs a n bytes h =
 time_faithful : Faithful Seconds encode_time decode_time
 time_faithful = record { back = time_back; only = time_only }
 
-abbrev Id : List ℕ → Type 0
-Id id = length id ≤ 20
-
-id_back : (id rest : List ℕ) → Id id → decode_id (encode_id id ++ rest) ≡ Ok (id, length (encode_id id))
+id_back : (id rest : List ℕ) → SoundId id → decode_id (encode_id id ++ rest) ≡ Ok (id, length (encode_id id))
 id_back id rest s =
-    let l = le-ltb 20 (length id) s in
+    let l = le-ltb 20 (length id) s.1 in
     let f = octets_back (length id) id rest refl in
     let one : 1 + length id ≡ suc (length id) = omega arith in
     rw (some_bytes (length id) (id ++ rest), l, f, one)
 
-id_only : (bs id : List ℕ) (n : ℕ) → Bytes bs → decode_id bs ≡ Ok (id, n) → Only Id encode_id bs id n
+id_only : (bs id : List ℕ) (n : ℕ) → Bytes bs → decode_id bs ≡ Ok (id, n) → Only SoundId encode_id bs id n
 id_only bs id n bytes h =
     let k : ℕ = get_or bs 0 0 in
     let p = past (nat_lt (length bs) 1) Short _ (id, n) h in
@@ -141,10 +139,10 @@ id_only bs id n bytes h =
     moved (record {
       long = omega (arith, t.1);
       same = t.0 ∙ ap (λ z. (z ∷ u.0) ++ drop (1 + k) bs) (sym t.1);
-      sound = omega (arith, ltb-false 20 k q.0, t.1);
+      sound = (t.2 bytes, omega (arith, ltb-false 20 k q.0, t.1));
     }) u.2
 
-id_faithful : Faithful Id encode_id decode_id
+id_faithful : Faithful SoundId encode_id decode_id
 id_faithful = record { back = id_back; only = id_only }
 
 addr_back : (a : SocketAddr) (rest : List ℕ) → SoundAddr a → decode_addr (encode_addr a ++ rest) ≡ Ok (a, length (encode_addr a))
@@ -161,7 +159,7 @@ addr_only bs a n bytes h =
 addr_faithful : Faithful SoundAddr encode_addr decode_addr
 addr_faithful = record { back = addr_back; only = addr_only }
 
-retry_faithful : Faithful (λ q. SoundAddr q.0 × (Id q.1.0 × Seconds q.1.1)) (λ q. encode_addr q.0 ++ (encode_id q.1.0 ++ encode_time q.1.1)) (both decode_addr (both decode_id decode_time))
+retry_faithful : Faithful (λ q. SoundAddr q.0 × (SoundId q.1.0 × Seconds q.1.1)) (λ q. encode_addr q.0 ++ (encode_id q.1.0 ++ encode_time q.1.1)) (both decode_addr (both decode_id decode_time))
 retry_faithful = both_faithful addr_faithful (both_faithful id_faithful time_faithful)
 
 validation_faithful : Faithful (λ q. SoundIp q.0 × Seconds q.1) (λ q. encode_ip q.0 ++ encode_time q.1) (both decode_ip decode_time)
@@ -226,8 +224,26 @@ short (Retry address id seconds) s =
     let e = length-append (encode_ip address.ip) (encode_port address.port) in
     let f = length-append (encode_addr address) (encode_id id ++ encode_time seconds) in
     let g = length-append (encode_id id) (encode_time seconds) in
-    (omega (arith, b.0, s.1), omega (arith, b.1, s.1))
+    (omega (arith, b.0, s.1.1), omega (arith, b.1, s.1.1))
 short (Validation ip seconds) s =
     let b = ip_room ip s.0 in
     let e = length-append (encode_ip ip) (encode_time seconds) in
     (omega (arith, b.0), omega (arith, b.1))
+
+-- the bytes of a content are bytes
+joined : (xs ys : List ℕ) → Bytes xs → Bytes ys → Bytes (xs ++ ys)
+joined xs ys p q = All-append (λ z. z < 256) xs ys p q
+
+ip_bytes : (a : IpAddr) → SoundIp a → Bytes (encode_ip a)
+ip_bytes (V4 o) s = (omega arith, s.0)
+ip_bytes (V6 o) s = (omega arith, s.0)
+
+pub bytes : ContentsAreBytes
+unfolding encode_content
+bytes (Retry address id seconds) s = (
+  omega arith,
+  joined (encode_addr address) (encode_id id ++ encode_time seconds)
+      (joined (encode_ip address.ip) (encode_port address.port) (ip_bytes address.ip s.0.0) (big_bytes 2 address.port))
+      (joined (encode_id id) (encode_time seconds) (omega (arith, s.1.1), s.1.0) (big_bytes 8 seconds)),
+)
+bytes (Validation ip seconds) s = (omega arith, joined (encode_ip ip) (encode_time seconds) (ip_bytes ip s.0) (big_bytes 8 seconds))

@@ -4,3 +4,4 @@ pub mod Writing
 pub mod Faithful
 pub mod Contents
 pub mod Ids
+pub mod Equals

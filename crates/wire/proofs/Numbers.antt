@@ -2,13 +2,21 @@
 use Rattle.std.proofs.Common.{◌≡◌, ℕ, zero, suc, ◌+◌, ◌*◌, ◌/◌, ◌%◌, ◌^◌, ◌<◌, List, [], ◌∷◌, ◌++◌, length, get_or, take, drop, sym, refl, ap, ◌∙◌, pow-suc, arith}
 use Rattle.std.specs.Int.Digits.{number_from_digits, number_from_digits_after}
 use Rattle.std.proofs.lemmas.Int.Digits.{number_push}
-use Rattle.std.proofs.ByRecursion.{All-get_or, All-take}
+use Rattle.std.proofs.ByRecursion.{All-get_or, All-from_get_or, All-take, All-append}
 use Rattle.std.proofs.lemmas.List.{at_drop_more, take_more, take_all, length_push, length-take-le}
 use Rattle.wire.specs.Numbers.{Bytes, big_endian, little_endian, from_little_endian}
 
 pub length_big : (width n : ℕ) → length (big_endian width n) ≡ width
 length_big zero n = refl
 length_big (suc width) n = length_push (big_endian width (n / 256)) (n % 256) ∙ rw (length_big width (n / 256)) (omega arith)
+
+pub bytes_from : (bs : List ℕ) → ((i : ℕ) → get_or bs i 0 < 256) → Bytes bs
+bytes_from bs h = All-from_get_or (λ b. b < 256) bs 0 (λ i inside. h i)
+
+-- the bytes of a number are bytes
+pub big_bytes : (width n : ℕ) → Bytes (big_endian width n)
+big_bytes zero n = tt
+big_bytes (suc width) n = All-append (λ x. x < 256) (big_endian width (n / 256)) (n % 256 ∷ []) (big_bytes width (n / 256)) (omega arith, tt)
 
 -- the bytes of a number write that number
 pub big_back : (width n : ℕ) → n < 256 ^ width → number_from_digits 256 (big_endian width n) ≡ n
@@ -40,6 +48,10 @@ more before o i h = at_drop_more (number_from_digits_after 256 before) o i 0 h
 pub length_little : (width n : ℕ) → length (little_endian width n) ≡ width
 length_little zero n = refl
 length_little (suc width) n = ap suc (length_little width (n / 256))
+
+pub little_bytes : (width n : ℕ) → Bytes (little_endian width n)
+little_bytes zero n = tt
+little_bytes (suc width) n = (omega arith, little_bytes width (n / 256))
 
 pub little_back : (width n : ℕ) → n < 256 ^ width → from_little_endian (little_endian width n) ≡ n
 little_back zero n h = omega arith

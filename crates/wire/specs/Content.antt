@@ -11,6 +11,7 @@ use Rattle.wire.specs.declared.types.IpAddr.TheVariants.{V4, V6}
 use Rattle.wire.specs.declared.types.SocketAddr.{SocketAddr}
 use Rattle.wire.specs.declared.types.TokenPayload.{TokenPayload}
 use Rattle.wire.specs.declared.types.TokenPayload.TheVariants.{Retry, Validation}
+use Rattle.wire.specs.declared.TheConstants.{MAX_CID_LEN}
 use Rattle.wire.specs.Numbers.{big_endian}
 use Rattle.std.specs.Int.Digits.{number_from_digits}
 use Rattle.wire.specs.Fields.{and_then, Reader, octets, both}
@@ -27,7 +28,7 @@ same_addr a b = same_ip a.ip b.ip && a.port == b.port
 
 -- bytes as a connection id: at most 20
 abbrev pub id_from : List ℕ → Result (List ℕ) Refusal
-id_from bs = if nat_lt 20 (length bs) then Err refusal.LongConnectionId else Ok bs
+id_from bs = if nat_lt MAX_CID_LEN (length bs) then Err refusal.LongConnectionId else Ok bs
 
 -- an IP is a byte 0 and 4 octets, or a byte 1 and 16
 abbrev pub encode_ip : IpAddr → List ℕ
@@ -62,7 +63,7 @@ encode_id id = length id ∷ id
 abbrev pub decode_id : Reader (List ℕ)
 decode_id bs =
     if nat_lt (length bs) 1 then Err Short
-    else if nat_lt 20 (slice_index bs 0) then Err (LongConnectionId (slice_index bs 0))
+    else if nat_lt MAX_CID_LEN (slice_index bs 0) then Err (LongConnectionId (slice_index bs 0))
     else and_then (octets (slice_index bs 0) (drop 1 bs)) (λ id. Ok (id, 1 + slice_index bs 0))
 
 -- an issue time is eight bytes, and at most 4,294,967,295

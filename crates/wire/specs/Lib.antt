@@ -2,5 +2,5 @@ pub mod Numbers
 pub mod Fields
 pub mod Content
 pub mod Laws
-pub mod Sameness
 pub mod Ids
+pub mod Text

@@ -4,7 +4,7 @@ ghost use Rattle.wire.specs.Fields.{octets as octets_of};
 ghost use Rattle.wire.specs.Content.{decode_ip, decode_port, decode_addr, decode_id, decode_time, decode_retry, decode_validation, decode_content, ended as ended_at};
 
 use crate::types::{ConnectionId, IpAddr, SocketAddr, TokenPayload};
-use crate::{IPV4, IPV6, MAX_CID_SIZE, RETRY, VALIDATION};
+use crate::{IPV4, IPV6, MAX_CID_LEN, RETRY, VALIDATION};
 use answers::Fault;
 
 // The first `N` bytes.
@@ -66,7 +66,7 @@ impl ConnectionId {
     {
         let (first, rest) = bytes.split_first().ok_or(Fault::Short)?;
         let len = *first as usize;
-        if len > MAX_CID_SIZE {
+        if len > MAX_CID_LEN {
             return Err(Fault::LongConnectionId(*first));
         }
         if rest.len() < len {

@@ -104,3 +104,32 @@ fn connection_ids(rt: HostRuntime) -> Result<(), Fail> {
     );
     Ok(())
 }
+
+// The texts are those of Python's ipaddress, but for the address that embeds an IPv4 one, which RFC 5952 has end so.
+#[test]
+fn printed_texts(rt: HostRuntime) -> Result<(), Fail> {
+    let cab = SocketAddr {
+        ip: CAB,
+        port: 4433,
+    };
+    assert_eq!(rt; format!(in rt.alloc(); "{cab}")?.as_str(), "192.0.2.7:4433");
+    let long = IpAddr::from([0x20, 1, 0x0d, 0xb8, 0, 0, 0, 0, 0, 1, 0, 0, 0, 0, 0, 1]);
+    assert_eq!(rt;
+        format!(in rt.alloc(); "{long}")?.as_str(),
+        "2001:db8::1:0:0:1"
+    );
+    let last = IpAddr::from([0xfe, 0x80, 0, 0, 0, 1, 0, 0, 0, 0, 0, 0, 0, 0, 0xab, 0xcd]);
+    let address = SocketAddr { ip: last, port: 1 };
+    assert_eq!(rt;
+        format!(in rt.alloc(); "{address}")?.as_str(),
+        "[fe80:0:1::abcd]:1"
+    );
+    let mapped = IpAddr::from([0, 0, 0, 0, 0, 0, 0, 0, 0, 0, 0xff, 0xff, 192, 0, 2, 7]);
+    assert_eq!(rt;
+        format!(in rt.alloc(); "{mapped}")?.as_str(),
+        "::ffff:192.0.2.7"
+    );
+    let id = ConnectionId::new(&[0xaa, 0x0b])?;
+    assert_eq!(rt; format!(in rt.alloc(); "{id:?}")?.as_str(), "aa0b");
+    Ok(())
+}

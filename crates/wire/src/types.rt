@@ -1,4 +1,4 @@
-use crate::MAX_CID_SIZE;
+use crate::MAX_CID_LEN;
 use std::marker::Model;
 
 // An IP: its octets, the first one first.
@@ -20,7 +20,7 @@ pub struct SocketAddr {
 #[derive(Clone, Copy, PartialEq, Eq)]
 pub struct ConnectionId {
     pub(crate) len: u8,
-    pub(crate) bytes: [u8; MAX_CID_SIZE],
+    pub(crate) bytes: [u8; MAX_CID_LEN],
 }
 
 // In clauses a connection id is its bytes.
@@ -41,7 +41,7 @@ impl Model for ConnectionId {
 }
 
 // What a token says; an issue time is in whole seconds since 1970.
-#[derive(Clone, Copy)]
+#[derive(Debug, Clone, Copy, PartialEq, Eq)]
 pub enum TokenPayload {
     // sent in a Retry packet
     Retry {

@@ -1,34 +1,33 @@
 -- Worked examples of what is remembered: the log, sizes and positions of filters, the client's cache.
 use Rattle.std.specs.Prelude.{◌≡◌, ℕ, List, [], ◌∷◌, map, Ok, Err}
-use Rattle.answers.specs.declared.Cause.TheVariants.{Held, BeforePeriod}
-use Rattle.filter.specs.Filter.{Meaning, exact}
+use Rattle.answers.specs.declared.LogCause.TheVariants.{Held, BeforePeriod}
+use Rattle.filter.specs.Sets.{SetRecords, SetEmpties}
+use Rattle.filter.specs.declared.exact.ExactSet.{ExactSet}
 use Rattle.bloom.specs.Sizes.{half, Largest}
 use Rattle.bloom.specs.Bits.{position}
 use Rattle.token_log.specs.declared.two_generations.TwoGenerationLog.{TwoGenerationLog}
-use Rattle.token_log.specs.Generations.{Logs}
-use Rattle.token_log.specs.Laws.{Call, Leads}
+use Rattle.token_log.specs.Generations.{Begun, Logs}
+use Rattle.token_log.specs.Log.{Query, Answer}
+use Rattle.token_log.specs.Successions.{Call, Leads}
 use Rattle.token_store.specs.Store.{Bytes}
 use Rattle.token_memory_cache.specs.Cache.{Entry, stored}
 
--- an exact set of four places, by what it holds
-abbrev pub four : List ℕ → Meaning
-four xs = exact xs 4
+-- a call on a log under a lifetime of ten seconds
+abbrev pub query : ℕ → ℕ → Query
+query low issued = record { low = low; issued = issued; lifetime = 10000000000 }
 
-abbrev pub unused : TwoGenerationLog (List ℕ)
-unused = record { period_start = 0; one = []; two = [] }
+-- eight calls over four periods, the newest first, and what they are answered
+abbrev pub periods : List Query
+periods = query 10 1020 ∷ query 11 1050 ∷ query 9 1010 ∷ query 10 1020 ∷ query 9 1010 ∷ query 7 1000 ∷ query 8 999 ∷ query 7 1000 ∷ []
 
-abbrev pub accepted : ℕ → ℕ → Call
-accepted low issued = record { low = low; issued = issued; answer = Ok tt }
+abbrev pub answers : List Answer
+answers = Err BeforePeriod ∷ Ok tt ∷ Err Held ∷ Ok tt ∷ Ok tt ∷ Err Held ∷ Ok tt ∷ Ok tt ∷ []
 
-abbrev pub held : ℕ → ℕ → Call
-held low issued = record { low = low; issued = issued; answer = Err Held }
-
-abbrev pub early : ℕ → ℕ → Call
-early low issued = record { low = low; issued = issued; answer = Err BeforePeriod }
-
--- eight calls over four periods of ten seconds
-abbrev pub periods : List Call
-periods = accepted 7 1000 ∷ accepted 8 999 ∷ held 7 1000 ∷ accepted 9 1010 ∷ accepted 10 1020 ∷ held 9 1010 ∷ accepted 11 1050 ∷ early 10 1020 ∷ []
+-- whatever answers these calls get on a new log over two exact sets of four places, they are those
+abbrev pub TheLogsRun : Type 0
+TheLogsRun =
+    (one two : ExactSet) (s s' : TwoGenerationLog ExactSet) (ks : List Call) → one.capacity ≡ 4 → two.capacity ≡ 4 → Begun SetEmpties one two s
+    → map (λ k. k.query) ks ≡ periods → Leads (Logs SetRecords SetEmpties) s ks s' → map (λ k. k.answer) ks ≡ answers
 
 -- the first three positions of a fingerprint among 64 bits
 abbrev pub positions : ℕ → List ℕ
@@ -52,7 +51,7 @@ abbrev pub to : Bytes → List Entry → List Entry
 to n es = stored 2 2 n token es
 
 pub record MemoryExamples : Type 0 where
-  pub run : (last : TwoGenerationLog (List ℕ)) × Leads (Logs four) 10000000000 unused periods last
+  pub run : TheLogsRun
   pub sure47 : Largest (half 47) 0
   pub sure48 : Largest (half 48) 3
   pub sure112 : Largest (half 112) 7

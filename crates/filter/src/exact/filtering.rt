@@ -1,26 +1,29 @@
-ghost use Rattle.std.specs.Prelude.{◌≡◌, [], ◌∷◌, ◌++◌, is_ok, if◌then◌else◌};
-ghost use Rattle.filter.specs.Filter.{Records, Emptied};
-ghost use Rattle.filter.specs.Sets.{set_means};
+ghost use Rattle.filter.specs.Sets.{set_means, SetRecords, SetEmpties};
+ghost use Rattle.filter.specs.SetLaws.{set_recorded, set_emptied};
 ghost use Rattle.std.proofs.Common.{rules};
 
 use super::ExactSet;
 use crate::{Filter, ListingFilter};
-use answers::Cause;
+use answers::FilterCause;
 
-// `means` is the trait's clause, written out: beside a clause of a method's own it is not derived.
 impl Filter for ExactSet {
     ghost meaning = { set_means };
 
-    fn record(&mut self, f: u64) -> Result<(), Cause>
-        ensures means { Records f (set_means self.old) (set_means self.new) result }
-        ensures held { self.new.held.items ≡ (if is_ok result then self.old.held.items ++ f ∷ [] else self.old.held.items) }
-    {
+    ghost records = { SetRecords };
+
+    ghost empties = { SetEmpties };
+
+    ghost recorded = { set_recorded };
+
+    ghost emptied = { set_emptied };
+
+    fn record(&mut self, f: u64) -> Result<(), FilterCause> {
         if self.find(f) {
-            return Err(Cause::Held);
+            return Err(FilterCause::Held);
         }
         let count = self.held.len();
         if count >= self.capacity as usize {
-            return Err(Cause::Full);
+            return Err(FilterCause::Full);
         }
         let bucket = self.bucket(f);
         let earlier = self.heads[bucket];
@@ -30,10 +33,7 @@ impl Filter for ExactSet {
         Ok(())
     }
 
-    fn empty(&mut self)
-        ensures means { Emptied (set_means self.old) (set_means self.new) }
-        ensures held { self.new.held.items ≡ [] }
-    {
+    fn empty(&mut self) {
         self.held.clear();
         self.links.clear();
         self.heads.fill(0);

@@ -3,4 +3,4 @@ use Rattle.filter.specs.Turning.{Poured}
 use Rattle.filter.proofs.turning.pour.Given as goal
 
 abbrev pub invariant-loop-i : goal.invariant-loop-i
-invariant-loop-i g l = Poured (take l.i (g.S.ListingFilter.listed l.set)) (g.B.Filter.meaning l.initial.other) (g.B.Filter.meaning l.other)
+invariant-loop-i g l = Poured g.B.Filter.records (take l.i (g.S.ListingFilter.listed l.set)) l.initial.other l.other

@@ -1,10 +1,9 @@
-use Rattle.std.proofs.Common.{◌≡◌, ◌≤◌, true, false, IfOk, length, Ok, sym, ap, ◌∙◌, rules}
+use Rattle.std.proofs.Common.{◌≡◌, true, false, length, rules}
 use Rattle.answers.specs.declared.Refusal.TheVariants.{AlreadyRetried}
-use Rattle.wire.proofs.Faithful.{same_ok}
 use Rattle.wire.specs.declared.types.TokenPayload.TheVariants.{Retry}
 use Rattle.sealing.specs.Tokens.{token_for}
 use Rattle.gate.specs.Calls.{is_retried, with_slip}
-use Rattle.gate.proofs.Writing.{refused, unrefused, within, buffer, blanked, written, retry_refused, retry_again, retry_written}
+use Rattle.gate.proofs.Writing.{refused, written, retry_refused, retry_again, retry_written}
 use Rattle.gate.proofs.Gate.retry.Goals as goal
 
 pub returns-in-Err-clause-writes : goal.returns-in-Err-clause-writes
@@ -27,11 +26,6 @@ returns-clause-writes g c =
     let nonce = c.args.nonce in
     let slip = c.args.slip in
     let bytes = token_for image nonce.low nonce.high (Retry slip.address slip.destination c.in-Ok.issued) in
-    let e = c.encode_token.ensures in
-    let room = c.in-Ok.ensures.enough.0 in
-    let enough = c.in-Ok.ensures.enough.1 in
-    let all = unrefused _ _ _ _ _ _ _ e room enough in
-    let fits : IfOk c.encode_token.result (λ n. n ≤ length c.args.out.now) = within _ _ _ _ _ _ _ e room enough in
-    written (with_slip slip nonce) _ bytes _ _ _ _ _
+    written (with_slip slip nonce) _ bytes c.args.working.now _ _ _ _
     (retry_written image nonce slip c.args.clock (length c.args.out.now) (length c.args.working.now) c.in-Ok.issued c.in-Ok.ensures.value first)
-    (ap Ok (same_ok _ _ (sym c.unwrap.ensures ∙ all))) (rw c.unwrap.ensures at fits) (buffer _ _ _ _ _ _ _ e room enough) (blanked _ _ _ _ _ _ _ e room enough)
+    c.write.ensures.written c.in-Ok.ensures.enough.0 c.write.ensures.blank

@@ -4,7 +4,7 @@ use Rattle.bloom.proofs.bits.PositionsIterator.next.Goals as goal
 use Rattle.bloom.proofs.bits.PositionsIterator.next.Goals.{then-sum-self, else-sum-self}
 
 pub returns-then-self-eq0-clause-steps : goal.returns-then-self-eq0-clause-steps
-returns-then-self-eq0-clause-steps c = (refl, ahead_none _ _ _ _ c.if-self-eq0.true)
+returns-then-self-eq0-clause-steps c = (refl, (ahead_none _ _ _ _ c.if-self-eq0.true, refl))
 
 pub returns-clause-steps : goal.returns-clause-steps
 returns-clause-steps c =

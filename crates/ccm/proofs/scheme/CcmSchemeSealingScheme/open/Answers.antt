@@ -1,8 +1,8 @@
-use Rattle.std.proofs.Common.{◌≡◌, ℕ, ◌-◌, ◌<◌, ◌⊎◌, List, length, Some, None, Ok, sym, ap, ◌∙◌, subst, inl, inr, arith}
+use Rattle.std.proofs.Common.{◌≡◌, ℕ, ◌-◌, ◌≤◌, List, length, Some, None, Ok, sym, ap, ◌∙◌, subst, arith}
 use Rattle.std.proofs.lemmas.Bool.Decides.{not_from_Decides}
 use borrow.Rule.Slice.PartMut.{put_mid}
 use Rattle.answers.specs.Buffers.{fronted}
-use Rattle.sealing.specs.Sealing.{Opens}
+use Rattle.sealing.specs.Sealing.{Opens, IsOpenedLen}
 use Rattle.sealing.specs.Tokens.{wiped}
 use Rattle.sealing.specs.Openings.{unopened}
 use Rattle.ccm.specs.Mode.{Cipher, sealed, unmasked}
@@ -11,18 +11,16 @@ use Rattle.ccm.specs.Openings.{length-unmasked}
 use Rattle.ccm.specs.Undoing.{opens_fitting, none_of_length, none_fitting}
 use Rattle.ccm.proofs.Leaving.{key_filled, all_filled, fronted_same, wiped-fronted, unopened_wiped, opened_left, left-some, left-wiped, left_same}
 use Rattle.ccm.proofs.scheme.CcmSchemeSealingScheme.open.Goals as goal
-use Rattle.ccm.proofs.scheme.CcmSchemeSealingScheme.open.Goals.{then-sealed-lt-TAG-via-then-sealed-lt-TAG, then-sealed-lt-TAG-via-else-sealed-lt-TAG+then-sealed}
 
-pub returns-then-sealed-lt-TAG : goal.returns-then-sealed-lt-TAG
-returns-then-sealed-lt-TAG c =
+pub returns-in_default : goal.returns-in_default
+returns-in_default c =
     let secret = c.args.self.now.secret in
     let n = c.args.nonce.now in
     let b = c.args.sealed.now in
-    let out : (length b < 16) ⊎ (80 < length b) =
-    elim c.then-sealed-lt-TAG.branch [ then-sealed-lt-TAG-via-then-sealed-lt-TAG w ↦ inl (omega arith) | then-sealed-lt-TAG-via-else-sealed-lt-TAG+then-sealed w ↦ inr (omega arith) ] in
+    let out = subst (IsOpenedLen (length b)) c.in_default.is c.in_ok-len.ensures.len in
     let none = none_of_length secret n b out in
     record {
-      opens = unopened (ccm_opened secret n) b c.args.working.now (omega arith) none;
+      opens = unopened (ccm_opened secret n) b c.args.working.now c.in_ok-len.ensures.enough none;
       left = left_same b c.args.working.now (ccm_opened secret n b) out none;
     }
 
@@ -32,6 +30,8 @@ returns-then-not-open_with c =
     let n = c.args.nonce.now in
     let b = c.args.sealed.now in
     let was = c.args.working.now in
+    let f = subst (IsOpenedLen (length b)) c.in-Some.is c.in_ok-len.ensures.len in
+    let enough : 96 ≤ length was = c.in_ok-len.ensures.enough in
     let opened = ccm_opened secret n in
     let fits : Cipher → Type 0 = λ E. sealed E (unmasked E b) ≡ b in
     let apart = not_from_Decides c.open_with.result c.open_with.ensures.fits c.if-not-open_with.true in
@@ -55,11 +55,14 @@ returns c =
     let n = c.args.nonce.now in
     let b = c.args.sealed.now in
     let was = c.args.working.now in
+    let len = c.in-Some.len in
+    let f = subst (IsOpenedLen (length b)) c.in-Some.is c.in_ok-len.ensures.len in
+    let enough : 96 ≤ length was = c.in_ok-len.ensures.enough in
     let is = c.derive-aes.new.working in
     let opened = ccm_opened secret n in
     let E = cipher_for secret n in
     let m = unmasked E b in
-    let l : length m ≡ length b - 16 = length-unmasked E b (omega arith) in
+    let l : length m ≡ len = length-unmasked E b (omega arith) ∙ omega arith in
     let fits : Cipher → Type 0 = λ E. sealed E (unmasked E b) ≡ b in
     let same : sealed E m ≡ b = subst fits c.derive-aes.ensures.cipher (c.open_with.ensures.fits.0 c.if-not-open_with.false) in
     let some : opened b ≡ Some m = opens_fitting secret n b (omega arith) (omega arith) same in
@@ -67,6 +70,6 @@ returns c =
     key_filled c.open_with.new.working c.fill-2.new.self (omega arith) (c.fill-2.ensures.after (λ y e. e)) ∙ ap keyless (c.open_with.ensures.after ∙ ap (λ (C : Cipher). fronted (unmasked C b) is) c.derive-aes.ensures.cipher)
     ∙ fronted_same m was is (omega arith) c.derive-aes.ensures.front c.derive-aes.ensures.past in
     record {
-      opens = subst (λ (w : List ℕ). Opens opened b was w (Ok (Some (length b - 16)))) (sym left) (opened_left was (omega arith) opened b m (length b - 16) l (omega arith) some);
+      opens = subst (λ (w : List ℕ). Opens opened b was w (Ok (Some len))) (sym left) (opened_left was (omega arith) opened b m len l (omega arith) some);
       left = left ∙ left-some b was m (opened b) some;
     }

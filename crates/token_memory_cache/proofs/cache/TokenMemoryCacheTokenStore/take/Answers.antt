@@ -1,20 +1,13 @@
 use Rattle.std.proofs.Common.{refl, arith}
 use Rattle.token_store.specs.Store.Takes.{small, long_name}
-use Rattle.token_store.specs.Laws.Succession.{then}
 use Rattle.token_memory_cache.proofs.Steps.{takes_none, takes_some}
 use Rattle.token_memory_cache.proofs.cache.TokenMemoryCacheTokenStore.take.Goals as goal
 
-pub returns-then-out-lt-MAX_STORED-clause-takes : goal.returns-then-out-lt-MAX_STORED-clause-takes
-returns-then-out-lt-MAX_STORED-clause-takes c = small (omega arith) refl (λ _ _. refl)
+pub returns-then-out-lt-MAX_STORED_LEN-clause-takes : goal.returns-then-out-lt-MAX_STORED_LEN-clause-takes
+returns-then-out-lt-MAX_STORED_LEN-clause-takes c = small (omega arith) refl (λ _ _. refl)
 
-pub returns-then-out-lt-MAX_STORED-clause-adds : goal.returns-then-out-lt-MAX_STORED-clause-adds
-returns-then-out-lt-MAX_STORED-clause-adds c xs r = then r (returns-then-out-lt-MAX_STORED-clause-takes c)
-
-pub returns-then-name-gt-MAX_NAME-clause-takes : goal.returns-then-name-gt-MAX_NAME-clause-takes
-returns-then-name-gt-MAX_NAME-clause-takes c = long_name (omega arith) (omega arith) refl (λ _ _. refl)
-
-pub returns-then-name-gt-MAX_NAME-clause-adds : goal.returns-then-name-gt-MAX_NAME-clause-adds
-returns-then-name-gt-MAX_NAME-clause-adds c xs r = then r (returns-then-name-gt-MAX_NAME-clause-takes c)
+pub returns-then-name-gt-MAX_NAME_LEN-clause-takes : goal.returns-then-name-gt-MAX_NAME_LEN-clause-takes
+returns-then-name-gt-MAX_NAME_LEN-clause-takes c = long_name (omega arith) (omega arith) refl (λ _ _. refl)
 
 pub returns-in_default-clause-takes : goal.returns-in_default-clause-takes
 returns-in_default-clause-takes c =
@@ -22,15 +15,9 @@ returns-in_default-clause-takes c =
     rw (← c.self.view_is, ← c.as_bytes.ensures.value) (takes_none i.max_server_names i.max_tokens_per_server c.as_bytes.result.now c.args.out.now i.shelf c.take.new.self c.take.result c.self.invariant
     (omega arith) (omega arith) (c.take.ensures i.max_server_names i.max_tokens_per_server c.self.invariant) c.in_default.is)
 
-pub returns-in_default-clause-adds : goal.returns-in_default-clause-adds
-returns-in_default-clause-adds c xs r = then r (returns-in_default-clause-takes c)
-
 pub returns-clause-takes : goal.returns-clause-takes
 returns-clause-takes c =
     let i = c.self.inside in
     rw (← c.self.view_is, ← c.as_bytes.ensures.value, c.copy_from_slice.ensures.after, c.as_slice-token.ensures)
     (takes_some i.max_server_names i.max_tokens_per_server c.as_bytes.result.now c.args.out.now i.shelf c.take.new.self c.take.result c.self.invariant
     (omega arith) (omega arith) (c.take.ensures i.max_server_names i.max_tokens_per_server c.self.invariant) c.in-Some.token c.in-Some.is)
-
-pub returns-clause-adds : goal.returns-clause-adds
-returns-clause-adds c xs r = then r (returns-clause-takes c)

@@ -1,7 +1,7 @@
-use Rattle.std.proofs.Common.{◌+◌, ◌≡◌, ◌<◌, length, vec_items, sym, ap, ◌∙◌, arith}
+use Rattle.std.proofs.Common.{◌+◌, ◌≡◌, length, vec_items, sym, ap, ◌∙◌, arith}
 use Rattle.std.proofs.lemmas.List.{length-set}
 use Rattle.filter.specs.Lists.{distinct}
-use Rattle.filter.proofs.Members.{distinct_push, set-taken}
+use Rattle.filter.proofs.Members.{distinct_push}
 use Rattle.filter.proofs.Walks.{headed_after, chained_after}
 use Rattle.filter.proofs.exact.filtering.ExactSetFilter.record.Goals as goal
 
@@ -22,9 +22,3 @@ invariant_of-self-clause-chained c =
     let s = c.args.self.now in
     let l : c.len-count.result ≡ length (vec_items s.held) = omega arith in
     chained_after _ _ _ _ _ c.args.f _ _ _ c.push_reserved-2.ensures.items c.bucket-bucket.ensures.value l s.buckets s.headed s.linked c.push_reserved.ensures.items c.index-earlier.ensures s.chained
-
-pub returns-clause-means : goal.returns-clause-means
-returns-clause-means c =
-    let s = c.args.self.now in
-    let l : length (vec_items s.held) < s.capacity = omega (arith, s.held.ok.0, c.len-count.ensures, c.if-count-self.false) in
-    set-taken _ _ c.args.f _ c.push_reserved-2.ensures.items (sym c.find.ensures ∙ c.if-find.false) l

@@ -1,0 +1,12 @@
+use Rattle.std.proofs.Common.{refl, ◌∙◌, inl, inr, ⊎_elim, arith}
+use Rattle.token_store.specs.Store.Stores.{long_entry, inserts}
+use Rattle.own_parts.proofs.Slots.{inserted}
+use Rattle.own_parts.proofs.slot.storing.OneTokenTokenStore.insert.Goals as goal
+
+pub returns-then-name-gt-MAX_NAME_LEN : goal.returns-then-name-gt-MAX_NAME_LEN
+returns-then-name-gt-MAX_NAME_LEN c = long_entry (⊎_elim inl (λ p. inr p.1) c.then-name-gt-MAX_NAME_LEN.either) (λ _ _. refl)
+
+pub returns : goal.returns
+returns c =
+    inserts (omega arith) (omega arith)
+    (inserted c.args.self.now c.keep.new.self c.args.name.now c.args.token.now (λ f. let e = c.keep.ensures f in (e.0 ∙ c.as_bytes.ensures.value, e.1)))

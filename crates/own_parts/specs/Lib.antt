@@ -1,0 +1,7 @@
+pub mod Pairs
+pub mod PairLaws
+pub mod Slots
+pub mod Few
+pub mod FewLaws
+pub mod Clients
+pub mod Shifting

@@ -1,0 +1,125 @@
+use super::*;
+use answers::{FilterCause, LogCause, Refusal};
+use filter::{Filter, ListingFilter, TurningFilter};
+use gate::Gate;
+use sealing::{BenchScheme, MAX_TOKEN_LEN, Nonce, WORKING_LEN};
+use std::alloc::Global;
+use std::test::Fail;
+use token_log::{Lifetime, TokenLog, TwoGenerationLog};
+use token_store::TokenStore;
+use wire::{IpAddr, SocketAddr};
+
+const SECOND: u64 = 1_000_000_000;
+
+fn minute() -> Result<Lifetime, Fail> {
+    Ok(Lifetime::from_nanos(60 * SECOND)?)
+}
+
+#[test]
+fn a_log_of_pairs(rt: HostRuntime) -> Result<(), Fail> {
+    let mut log = PairLog::new(Vec::with_capacity(rt.alloc(), 2)?);
+    let lifetime = minute()?;
+    assert_eq!(rt; log.check_and_insert(7, 1000, lifetime), Ok(()));
+    assert_eq!(rt;
+        log.check_and_insert(7, 1000, lifetime),
+        Err(LogCause::Held)
+    );
+    assert_eq!(rt; log.check_and_insert(7, 1001, lifetime), Ok(()));
+    assert_eq!(rt;
+        log.check_and_insert(8, 1000, lifetime),
+        Err(LogCause::Full)
+    );
+    assert_eq!(rt;
+        log.check_and_insert(7, 1001, lifetime),
+        Err(LogCause::Held)
+    );
+    Ok(())
+}
+
+#[test]
+fn a_store_of_one_token(rt: HostRuntime) -> Result<(), Fail> {
+    let mut store = OneToken::new(Vec::new(rt.alloc()), Vec::new(rt.alloc()));
+    let mut out = [0; 512];
+    assert_eq!(rt; store.take("crane", &mut out), Ok(None));
+    assert_eq!(rt; store.insert("crane", b"first"), Ok(()));
+    assert_eq!(rt; store.insert("crane", b"second"), Ok(()));
+    assert_eq!(rt; store.take("mast", &mut out), Ok(None));
+    assert_eq!(rt; store.take("crane", &mut out), Ok(Some(6)));
+    assert!(rt; &out[..6] == b"second".as_slice());
+    assert_eq!(rt; store.take("crane", &mut out), Ok(None));
+    assert_eq!(rt; store.insert("crane", &[0; 513]), Err(Refusal::LongEntry));
+    Ok(())
+}
+
+// A token that comes twice is honoured once.
+#[test]
+fn guests_at_a_gate(rt: HostRuntime) -> Result<(), Fail> {
+    let log = PairLog::new(Vec::with_capacity(rt.alloc(), 2)?);
+    let mut gate = Gate::new(BenchScheme::new([3; 16]), log, minute()?, minute()?);
+    let address = SocketAddr {
+        ip: IpAddr::V4([192, 0, 2, 7]),
+        port: 4433,
+    };
+    let mut token = [0; MAX_TOKEN_LEN];
+    let mut working = [0; WORKING_LEN];
+    let Ok(len) = gate.issue(
+        Nonce::new(7, 9),
+        address.ip,
+        1000 * SECOND,
+        &mut token,
+        &mut working,
+    ) else {
+        return Err(Fail::new("an issue"));
+    };
+    let mut guests = Vec::with_capacity(rt.alloc(), 2)?;
+    for _ in 0..2 {
+        guests.push(Guest {
+            token: Vec::from_slice(rt.alloc(), &token[..len])?,
+            destination: Vec::new(rt.alloc()),
+            address,
+            clock: 1001 * SECOND,
+        })?;
+    }
+    let mut honoured = [false; 2];
+    serve_all(&mut gate, &guests, &mut honoured, &mut working);
+    assert_eq!(rt; honoured, [true, false]);
+    Ok(())
+}
+
+fn few(heap: Global, places: usize) -> Result<Few, Fail> {
+    Few::new(Vec::with_capacity(heap, places)?).map_err(|_| Fail::new("a list"))
+}
+
+#[test]
+fn a_filter_that_is_a_list(rt: HostRuntime) -> Result<(), Fail> {
+    let mut list = few(rt.alloc(), 2)?;
+    assert_eq!(rt; list.record(7), Ok(()));
+    assert_eq!(rt; list.record(7), Err(FilterCause::Held));
+    assert_eq!(rt; list.sure(), 1);
+    assert_eq!(rt; list.record(8), Ok(()));
+    assert_eq!(rt; list.record(9), Err(FilterCause::Full));
+    assert_eq!(rt; list.tell(1), Some(8));
+    assert!(rt; list.holds(8) && !list.holds(9));
+    Ok(())
+}
+
+// A list of two goes over to a list of three, in each generation of a log.
+#[test]
+fn lists_in_a_log(rt: HostRuntime) -> Result<(), Fail> {
+    let one = TurningFilter::new(few(rt.alloc(), 2)?, few(rt.alloc(), 3)?);
+    let two = TurningFilter::new(few(rt.alloc(), 2)?, few(rt.alloc(), 3)?);
+    let mut log = TwoGenerationLog::new(one, two);
+    let lifetime = minute()?;
+    for low in 1..=3 {
+        assert_eq!(rt; log.check_and_insert(low, 1000, lifetime), Ok(()));
+        assert_eq!(rt;
+            log.check_and_insert(low, 1000, lifetime),
+            Err(LogCause::Held)
+        );
+    }
+    assert_eq!(rt;
+        log.check_and_insert(4, 1000, lifetime),
+        Err(LogCause::Full)
+    );
+    Ok(())
+}

@@ -91,6 +91,12 @@ class RustScript(link_compare.Script):
             "none", f"turning {self.pick(0, 47, 48, 112, 128, 1000, 16_777_217)} {k}", f"turning {self.pick(16, 48, 64)} {self.pick(0, 1, 2, 65)}",
             f"expected {self.pick(1000, 4000)} {self.pick(100, 1000)}")
 
+    def cache(self):
+        return "cache"
+
+    def odd_stores(self):
+        return ()
+
     def head(self):
         return itertools.islice(super().head(), 1, None)
 

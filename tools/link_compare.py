@@ -25,6 +25,7 @@ NO_TOKENS = ["-", "00" * 15, "00" * 16, "00" * 81, "00" * 82]
 NAMES = ["a", "b", "c", "d", "-", "n" * 255, "n" * 254 + "m"]
 STORED = ["-", "00", "01", "0102", "0103", "05" * 512, "05" * 511 + "06"]
 ODD_STORE_CALLS = ["take - room 511", "take " + "n" * 256 + " room 511", "take " + "n" * 256, "insert " + "n" * 256 + " 00", "insert a " + "00" * 513]
+ODD_STORES = ["", "newest", "newest 1", "newest 1 2 3", "newest 1 -2", "newer 1 2", "cache 1", "none 1"]
 NO_CALLS = [
     "foo", "accept x", "arrive", "issue 1", "issue 1 2 300.0.0.1 5", "k -1 2", "arrive zz - 1.2.3.4 1 1", "retry 1 2", "take",
     "  ", "# c", "issue 18446744073709551616 0 1.2.3.4 0", "arrive - - 1.2.3.4 65536 0", "issue 01 2 1.2.3.4 5",
@@ -136,11 +137,18 @@ class Script:
         name = self.pick(*NAMES[: self.names_used])
         return f"insert {name} {self.pick(*STORED)}" if self.chance(0.6) else f"take {name}{self.room('room', 512, 600)}"
 
+    def cache(self):
+        return self.pick("cache", "newest")
+
+    def odd_stores(self):
+        if self.chance(0.1):
+            yield "store " + self.pick(*ODD_STORES)
+
     def store(self):
         if self.chance(0.2):
             return "none"
         names, tokens = self.pick(0, 1, 2, 3, 5, 256, 1024, 1025), self.pick(0, 1, 2, 3, 16, 17)
-        return f"cache {names} {tokens}"
+        return f"{self.cache()} {names} {tokens}"
 
     def log(self):
         k = self.pick(1, 3, 64)
@@ -156,6 +164,7 @@ class Script:
         yield f"scheme {'ccm' if ccm else 'bench'} {secret.hex()}"
         yield "log " + self.log()
         yield f"gate {self.retry} {self.validation}"
+        yield from self.odd_stores()
         yield "store " + self.store()
 
     def line(self, said):

@@ -308,6 +308,8 @@ class NoneStore:
 
 
 class Cache(NoneStore):
+    given = 0
+
     def __init__(self, names, tokens):
         if names > 1024 or tokens > 16:
             raise Refused(7)
@@ -329,9 +331,14 @@ class Cache(NoneStore):
         held = self.entries.pop(name, [])
         if not held:
             return None
-        if held[1:]:
-            self.entries[name] = held[1:]
-        return held[0]
+        token = held.pop(self.given)
+        if held:
+            self.entries[name] = held
+        return token
+
+
+class Newest(Cache):
+    given = -1
 
 
 # ---- scripts
@@ -451,10 +458,10 @@ def read_gate(w):
 
 
 def read_store(w):
-    kind = w.head("store", "the store comes next", ("none", "cache"))
-    limits = [w.number(32) for _ in range({"none": 0, "cache": 2}[kind])]
+    kind = w.head("store", "the store comes next", ("none", "cache", "newest"))
+    limits = [w.number(32) for _ in range(0 if kind == "none" else 2)]
     w.end()
-    return lambda _: ({"none": NoneStore, "cache": Cache}[kind](*limits), f"store {kind}")
+    return lambda _: ({"none": NoneStore, "cache": Cache, "newest": Newest}[kind](*limits), f"store {kind}")
 
 
 class Session:

@@ -99,10 +99,27 @@ impl Head for GateHead {
     }
 }
 
+// How many names a cache may hold, and how many tokens a name.
+#[derive(Clone, Copy)]
+pub(crate) struct Limits {
+    pub(crate) names: u32,
+    pub(crate) tokens: u32,
+}
+
+impl Limits {
+    fn read(words: &mut Words<'_>) -> Result<Limits, Bad> {
+        Ok(Limits {
+            names: words.number()?,
+            tokens: words.number()?,
+        })
+    }
+}
+
 #[derive(Clone, Copy)]
 pub(crate) enum StoreHead {
     None,
-    Cache { names: u32, tokens: u32 },
+    Cache(Limits),
+    Newest(Limits),
 }
 
 impl Head for StoreHead {
@@ -113,10 +130,8 @@ impl Head for StoreHead {
     fn read(words: &mut Words<'_>) -> Result<StoreHead, Bad> {
         match words.next()? {
             "none" => Ok(StoreHead::None),
-            "cache" => Ok(StoreHead::Cache {
-                names: words.number()?,
-                tokens: words.number()?,
-            }),
+            "cache" => Ok(StoreHead::Cache(Limits::read(words)?)),
+            "newest" => Ok(StoreHead::Newest(Limits::read(words)?)),
             _ => Err(Bad::Line("no such store")),
         }
     }

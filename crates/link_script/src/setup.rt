@@ -1,6 +1,6 @@
 // Makes what the head asks for, and runs the rest of the script over it.
 use crate::answer::print_refusal;
-use crate::head::{GateHead, LogHead, SchemeHead, StoreHead};
+use crate::head::{GateHead, Limits, LogHead, SchemeHead, StoreHead};
 use crate::script::Script;
 use crate::session::Session;
 use answers::{Refusal, Refused};
@@ -15,7 +15,8 @@ use std::io;
 use std::io::BufRead;
 use token_log::{BloomTokenLog, Lifetime, LogMemory, NoneTokenLog, TokenLog, TwoGenerationLog};
 use token_memory_cache::{
-    MAX_SERVER_NAMES, MAX_TOKENS_PER_SERVER, NameEntry, Text, TokenMemoryCache,
+    MAX_SERVER_NAMES, MAX_TOKENS_PER_SERVER, MemoryCache, NameEntry, NewestFirst, OldestFirst,
+    TakeOrder, Text,
 };
 use token_store::{NoneTokenStore, TokenStore};
 
@@ -163,26 +164,32 @@ fn with_store<S: SealingScheme + Drop, L: TokenLog + Drop>(
             println!(rt; "store none")?;
             run_session(rt, script, gate, NoneTokenStore)
         }
-        Some(StoreHead::Cache { names, tokens }) => with_cache(rt, script, gate, names, tokens),
+        Some(StoreHead::Cache(limits)) => {
+            with_cache::<S, L, OldestFirst>(rt, script, gate, limits, "cache")
+        }
+        Some(StoreHead::Newest(limits)) => {
+            with_cache::<S, L, NewestFirst>(rt, script, gate, limits, "newest")
+        }
         None => Ok(()),
     }
 }
 
-// A cache, in memory for as much as its limits allow.
-fn with_cache<S: SealingScheme + Drop, L: TokenLog + Drop>(
+// A cache with takes in the order O, in memory for as much as its limits allow.
+fn with_cache<S: SealingScheme + Drop, L: TokenLog + Drop, O: TakeOrder + Drop>(
     rt: &impl Print,
     script: &mut Script<impl BufRead>,
     gate: Gate<S, L>,
-    names: u32,
-    tokens: u32,
+    limits: Limits,
+    name: &str,
 ) -> Result<(), Stop> {
     let heap = script.heap;
+    let Limits { names, tokens } = limits;
     let most = names.min(MAX_SERVER_NAMES) as usize;
     let each = tokens.min(MAX_TOKENS_PER_SERVER) as usize;
     let mut name_memory = vec![in heap; Record::new(NameEntry::new()); most]?;
     let mut token_memory = vec![in heap; Record::new(Text::new()); most * each]?;
-    let cache = TokenMemoryCache::new(names, tokens, &mut name_memory, &mut token_memory)?;
-    println!(rt; "store cache")?;
+    let cache = MemoryCache::<O>::new(names, tokens, &mut name_memory, &mut token_memory)?;
+    println!(rt; "store {name}")?;
     run_session(rt, script, gate, cache)
 }
 

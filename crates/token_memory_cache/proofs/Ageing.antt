@@ -6,11 +6,13 @@ use Rattle.std.proofs.lemmas.Bool.{and_parts, and_from, and_left, and_right, or_
 use Rattle.answers.specs.Successions.{Succession, Each}
 use Rattle.answers.specs.Successions.Succession.{new, then}
 use Rattle.token_store.specs.Store.{Bytes}
-use Rattle.token_memory_cache.specs.Cache.{Entry, Cache, has, named, tokens_of, without, others_of, added, sound, Kept}
+use Rattle.token_memory_cache.specs.Cache.{Entry, Cache, has, named, tokens_of, without, others_of, added, left, sound, Kept}
+use Rattle.token_memory_cache.specs.Orders.{Within}
 use Rattle.token_memory_cache.specs.Histories.{Event, History, Does, Step, fresh, entries_after, held, came, uses, last_use}
-use Rattle.token_memory_cache.proofs.Caches.{same_refl, same_true, same_swap, tokens_none, tokens_without, tokens_push_other, tokens_push_same, named_without_same, named-drop, added_by, has-drop, stored_is}
-use Rattle.token_memory_cache.proofs.Rising.{Rising, all_of, all_as, rising_as, rising_push, rising-drop}
-use Rattle.token_memory_cache.proofs.Taking.{removal, rests}
+use Rattle.token_memory_cache.proofs.Sameness.{same_refl, same_true, same_swap}
+use Rattle.token_memory_cache.proofs.Caches.{tokens_none, tokens_without, tokens_push_other, tokens_push_same, named_without_same, named-drop, added_by, has-drop, apart_of, stored_is}
+use Rattle.token_memory_cache.proofs.Rising.{Rising, all_of, all_as, rising_as, rising_push, rising-drop, rising-cut}
+use Rattle.token_memory_cache.proofs.Taking.{picked, picked_from, rests}
 use Rattle.token_memory_cache.proofs.Taking.Rests.{none_left, some_left}
 use Rattle.token_memory_cache.proofs.Turns.{Turn, leaves}
 use Rattle.token_memory_cache.proofs.Turns.Turn.{refused_insert, refused_take, found_none, no_room, stores, hands}
@@ -132,7 +134,7 @@ pub record Aged (names tokens : ℕ) (xs : History) : Type 0 where
   pub by_use : Rising (λ e. last_use e.name xs) (entries_after xs)
   pub by_coming : (n : Bytes) → Rising (λ t. came n t xs) (tokens_of n (entries_after xs))
 
-module _ (names tokens : ℕ) (x : Event) (xs : History) (a : Aged names tokens xs) where
+module _ (p : ℕ → ℕ) (names tokens : ℕ) (x : Event) (xs : History) (a : Aged names tokens xs) where
   abbrev es : List Entry
   es = entries_after xs
 
@@ -142,7 +144,7 @@ module _ (names tokens : ℕ) (x : Event) (xs : History) (a : Aged names tokens 
   abbrev Came : List Entry → Type 0
   Came zs = (m : Bytes) → Rising (λ u. came m u (x ∷ xs)) (tokens_of m zs)
 
-  used_after : (zs : List Entry) → Turn names tokens x.call es zs → Used zs
+  used_after : (zs : List Entry) → Turn p names tokens x.call es zs → Used zs
   used_after zs (refused_insert n t e c d) = subst Used (sym d) (idle_use x xs (λ m. ap (uses m) c ∙ and_right _ _ refl) es a.by_use)
   used_after zs (refused_take n out out' e c d) = subst Used (sym d) (idle_use x xs (λ m. ap (uses m) c ∙ and_right _ _ refl) es a.by_use)
   used_after zs (found_none n out out' c z d) = subst Used (sym d) (idle_use x xs (λ m. ap (uses m) c ∙ and_right _ _ refl) es a.by_use)
@@ -153,11 +155,11 @@ module _ (names tokens : ℕ) (x : Event) (xs : History) (a : Aged names tokens 
       (others_of names n es) (named-others names n es) (rising-others (λ e. last_use e.name xs) names n es a.by_use))
   used_after zs (hands n out out' t k c f h d) =
       let others : (m : Bytes) → bytes_eq m n ≡ false → uses m x.call ≡ false = λ m q. ap (uses m) c ∙ and_left _ _ q in
-      let left : Rising (λ e. last_use e.name xs) (without n es) = rising-without (λ e. last_use e.name xs) n es a.by_use in
-      elim (rests n es (tokens_of n es) t h) [
-        | none_left e ↦ subst Used (sym (d ∙ e)) (other_use x xs n others (without n es) (named_without_same n es) left)
+      let others_rise : Rising (λ e. last_use e.name xs) (without n es) = rising-without (λ e. last_use e.name xs) n es a.by_use in
+      elim (rests p n es (tokens_of n es) t h) [
+        | none_left z e ↦ subst Used (sym (d ∙ e)) (other_use x xs n others (without n es) (named_without_same n es) others_rise)
         | some_left e ↦ subst Used (sym (d ∙ e))
-            (pushed_use x xs n (drop 1 (tokens_of n es)) (ap (uses n) c ∙ and_from _ _ (same_refl n) refl) others (without n es) (named_without_same n es) left)
+            (pushed_use x xs n (left p (tokens_of n es)) (ap (uses n) c ∙ and_from _ _ (same_refl n) refl) others (without n es) (named_without_same n es) others_rise)
       ]
 
   left_order : (fs : List Entry) (m : Bytes) → (tokens_of m fs ≡ tokens_of m es) ⊎ (tokens_of m fs ≡ []) → Rising (λ u. came m u (x ∷ xs)) (tokens_of m fs)
@@ -178,7 +180,7 @@ module _ (names tokens : ℕ) (x : Event) (xs : History) (a : Aged names tokens 
   same_order : Came es
   same_order m = left_order es m (inl refl)
 
-  came_after : (zs : List Entry) → Turn names tokens x.call es zs → Came zs
+  came_after : (zs : List Entry) → Turn p names tokens x.call es zs → Came zs
   came_after zs (refused_insert n t e c d) = subst Came (sym d) same_order
   came_after zs (refused_take n out out' e c d) = subst Came (sym d) same_order
   came_after zs (found_none n out out' c z d) = subst Came (sym d) same_order
@@ -188,46 +190,48 @@ module _ (names tokens : ℕ) (x : Event) (xs : History) (a : Aged names tokens 
       (put_order n (added tokens t (tokens_of n es)) (others_of names n es) (named-others names n es) (added_order x xs n t tokens (a.by_coming n))
       (λ m q. tokens-others names n m es a.kept.0 q))
   came_after zs (hands n out out' t k c f h d) =
-      let r = removal t (tokens_of n es) h in
-      let order : Rising (λ u. came n u (x ∷ xs)) (drop 1 (tokens_of n es)) = held_order x xs n (drop 1 (tokens_of n es)) r.left (r.rising (λ u. came n u xs) (a.by_coming n)) in
-      elim (rests n es (tokens_of n es) t h) [
-        | none_left e ↦ subst Came (sym (d ∙ e)) (λ m. left_order (without n es) m (⊎_elim
+      let ts : List Bytes = tokens_of n es in
+      let i : ℕ = p (length ts) in
+      let were = picked_from ts i t (picked ts i t (apart_of es n a.kept.0) h) in
+      let order : Rising (λ u. came n u (x ∷ xs)) (left p ts) = held_order x xs n (left p ts) were (rising-cut (λ u. came n u xs) i ts (a.by_coming n)) in
+      elim (rests p n es (tokens_of n es) t h) [
+        | none_left z e ↦ subst Came (sym (d ∙ e)) (λ m. left_order (without n es) m (⊎_elim
             (λ q. inr (tokens_none m (without n es) (rw (same_true m n q) (named_without_same n es)))) (λ q. inl (tokens_without n m es q)) (cases_Bool (bytes_eq m n))))
-        | some_left e ↦ subst Came (sym (d ∙ e)) (put_order n (drop 1 (tokens_of n es)) (without n es) (named_without_same n es) order (λ m q. inl (tokens_without n m es q)))
+        | some_left e ↦ subst Came (sym (d ∙ e)) (put_order n (left p ts) (without n es) (named_without_same n es) order (λ m q. inl (tokens_without n m es q)))
       ]
 
-  pub aged_step : Turn names tokens x.call es x.left.entries → Kept names tokens x.left.entries → Aged names tokens (x ∷ xs)
+  pub aged_step : Turn p names tokens x.call es x.left.entries → Kept names tokens x.left.entries → Aged names tokens (x ∷ xs)
   aged_step w k = record { kept = k; by_use = used_after x.left.entries w; by_coming = came_after x.left.entries w }
 
 -- every call of a history, with what was kept to before it
-pub record Met (names tokens : ℕ) (x : Event) (xs : History) : Type 0 where
+pub record Met (p : ℕ → ℕ) (names tokens : ℕ) (x : Event) (xs : History) : Type 0 where
   pub aged : Aged names tokens xs
-  pub turn : Turn names tokens x.call (entries_after xs) x.left.entries
+  pub turn : Turn p names tokens x.call (entries_after xs) x.left.entries
 
-record Reached (names tokens nr tr : ℕ) (xs : History) (c : Cache) : Type 0 where
+record Reached (p : ℕ → ℕ) (names tokens nr tr : ℕ) (xs : History) (c : Cache) : Type 0 where
   pub state : c ≡ record { names = names; tokens = tokens; name_records = nr; token_records = tr; entries = entries_after xs }
   pub aged : Aged names tokens xs
-  pub met : Each (Met names tokens) xs
+  pub met : Each (Met p names tokens) xs
 
-module _ (names tokens nr tr : ℕ) where
-  reached_step : (x : Event) (xs : History) (c c' : Cache) → Reached names tokens nr tr xs c → Step c x c' → Reached names tokens nr tr (x ∷ xs) c'
+module _ (p : ℕ → ℕ) (within : Within p) (names tokens nr tr : ℕ) where
+  reached_step : (x : Event) (xs : History) (c c' : Cache) → Reached p names tokens nr tr xs c → Step p c x c' → Reached p names tokens nr tr (x ∷ xs) c'
   reached_step x xs c c' r s =
       let now : Cache = record { names = names; tokens = tokens; name_records = nr; token_records = tr; entries = entries_after xs } in
-      let does : Does now x.call x.left = subst (λ d. Does d x.call x.left) r.state (subst (Does c x.call) (sym s.1) s.0) in
-      let l = leaves names tokens nr tr (entries_after xs) r.aged.kept x.call x.left does in
+      let does : Does p now x.call x.left = subst (λ d. Does p d x.call x.left) r.state (subst (Does p c x.call) (sym s.1) s.0) in
+      let l = leaves p within names tokens nr tr (entries_after xs) r.aged.kept x.call x.left does in
       record {
         state = sym s.1 ∙ l.state;
-        aged = aged_step names tokens x xs r.aged l.turn l.kept;
+        aged = aged_step p names tokens x xs r.aged l.turn l.kept;
         met = (record { aged = r.aged; turn = l.turn }, r.met);
       }
 
-  reached : (xs : History) (c : Cache) → Succession Step (fresh names tokens nr tr) xs c → Reached names tokens nr tr xs c
+  reached : (xs : History) (c : Cache) → Succession (Step p) (fresh names tokens nr tr) xs c → Reached p names tokens nr tr xs c
   reached [] c (new) = record { state = refl; aged = record { kept = (refl, refl, omega arith, refl); by_use = tt; by_coming = λ n. tt }; met = tt }
   reached (x ∷ xs) c' (then {s' = c} r w) = reached_step x xs c c' (reached xs c r) w
 
-  pub met : (xs : History) (c : Cache) → Succession Step (fresh names tokens nr tr) xs c → Each (Met names tokens) xs
+  pub met : (xs : History) (c : Cache) → Succession (Step p) (fresh names tokens nr tr) xs c → Each (Met p names tokens) xs
   met xs c r = (reached xs c r).met
 
-pub each : (names tokens : ℕ) (P : Event → History → Type 0) → ((x : Event) (xs : History) → Met names tokens x xs → P x xs) → (xs : History) → Each (Met names tokens) xs → Each P xs
-each names tokens P h [] m = tt
-each names tokens P h (x ∷ xs) m = (h x xs m.0, each names tokens P h xs m.1)
+pub each : (p : ℕ → ℕ) (names tokens : ℕ) (P : Event → History → Type 0) → ((x : Event) (xs : History) → Met p names tokens x xs → P x xs) → (xs : History) → Each (Met p names tokens) xs → Each P xs
+each p names tokens P h [] m = tt
+each p names tokens P h (x ∷ xs) m = (h x xs m.0, each p names tokens P h xs m.1)

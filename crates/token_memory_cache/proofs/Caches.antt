@@ -2,26 +2,17 @@
 use Rattle.std.proofs.Common.{◌≡◌, ℕ, ◌<◌, ◌≤◌, Bool, true, false, cond, ◌&&◌, ◌||◌, if◌then◌else◌, nat_eq, nat_le, ◌⊎◌, List, [], ◌∷◌, ◌++◌, length, drop, Some, None, Ok, Option, sym, refl, ap, ap₂, ◌∙◌, subst, inl, inr, ⊎_elim, arith}
 use Rattle.std.specs.List.{list_all}
 use Rattle.std.specs.Str.{bytes_eq}
-use Rattle.std.proofs.lemmas.Bool.{false≢true, and_parts, and_from, or_parts, or_cases, or_from, or_left, or_right, not-true, not_from_false, cond-true, cond-false, cond_both, cases_Bool, leb-true, leb-false, le-leb, lt-leb, eqb-false, ne_eqb}
+use Rattle.std.proofs.lemmas.Bool.{false≢true, and_parts, and_from, or_parts, or_cases, or_from, or_right, not-true, not_from_false, cond-true, cond-false, cond_both, cases_Bool, leb-true, leb-false, le-leb, lt-leb, eqb-false, ne_eqb}
 use Rattle.std.proofs.lemmas.List.{length_push, length-drop}
-use Rattle.std.proofs.lemmas.Slice.Eq.{bytes_eq-Decides}
 use Rattle.answers.specs.Buffers.{fronted}
+use Rattle.record_pool.specs.Chains.{without as cut}
 use Rattle.token_store.specs.Store.Stores.{inserts}
 use Rattle.token_store.specs.Store.Takes.{none, some as handing}
 use Rattle.token_store.specs.Store.{Bytes, Holds, Alike, Inserted, Handed, Stores, Takes}
-use Rattle.token_memory_cache.specs.Cache.{Entry, has, named, tokens_of, without, holding, added, others_of, stored, oldest, rest, handed_out, taken, apart, some, sound, fits, shorts, short, Kept}
-
-pub same_refl : (x : Bytes) → bytes_eq x x ≡ true
-same_refl x = (bytes_eq-Decides x x).1 refl
-
-pub same_true : (x y : Bytes) → bytes_eq x y ≡ true → x ≡ y
-same_true x y = (bytes_eq-Decides x y).0
-
-pub same_ne : (x y : Bytes) → (x ≡ y → ⊥) → bytes_eq x y ≡ false
-same_ne x y n = ⊎_elim (λ e. absurd (n (same_true x y e))) (λ e. e) (cases_Bool _)
-
-pub same_swap : (x y : Bytes) → bytes_eq x y ≡ false → bytes_eq y x ≡ false
-same_swap x y e = same_ne y x (λ d. false≢true (sym e ∙ (bytes_eq-Decides x y).1 (sym d)))
+use Rattle.token_memory_cache.specs.Cache.{Entry, has, named, tokens_of, without, holding, added, others_of, stored, given, leave, rest, handed_out, taken, apart, some, sound, fits, shorts, short, Kept}
+use Rattle.token_memory_cache.specs.Orders.{Within}
+use Rattle.token_memory_cache.proofs.Sameness.{same_refl, same_true, same_swap}
+use Rattle.token_memory_cache.proofs.Taking.{nth_there, nth_short, Picked, picked}
 
 or_nil : (b : Bool) → (b || false) ≡ b
 or_nil true = refl
@@ -266,29 +257,31 @@ abbrev Removed : Bytes → Option Bytes → Holds → Holds → Type 0
 Removed n None h h' = Alike h h'
 Removed n (Some t) h h' = Handed n t h h'
 
-not_first : (t u : Bytes) (ts : List Bytes) → (u ≡ t → ⊥) → has u (t ∷ ts) ≡ has u ts
-not_first t u ts n = let e = same_ne u t n in rw e
+tokens_left : (n : Bytes) (es : List Entry) (us : List Bytes) → tokens_of n (leave n es us) ≡ us
+tokens_left n es [] = tokens_none n (without n es) (named_without_same n es)
+tokens_left n es (u ∷ us) = tokens_push_same (without n es) (record { name = n; tokens = u ∷ us }) n (named_without_same n es) (same_refl n)
 
--- the name n had t and then vs, and is left with vs
-module _ (n t : Bytes) (vs : List Bytes) (es fs : List Entry) (had : tokens_of n es ≡ t ∷ vs) (left : tokens_of n fs ≡ vs)
-    (other : (m : Bytes) → bytes_eq m n ≡ false → tokens_of m fs ≡ tokens_of m es) (lone : has t vs ≡ false) where
-  handed_out_lem : Removed n (Some t) (holding es) (holding fs)
-  handed_out_lem = record {
-    held = ap (has t) had ∙ or_left _ _ (same_refl t);
-    gone = ap (has t) left ∙ lone;
-    others = λ m u x. ⊎_elim
-        (λ d. let y = same_true m n d in rw y (ap (has u) left ∙ sym (ap (has u) had ∙ not_first t u vs (x y))))
-        (λ d. ap (has u) (other m d)) (cases_Bool (bytes_eq m n));
-  }
+tokens_beside : (n m : Bytes) (es : List Entry) (us : List Bytes) → bytes_eq m n ≡ false → tokens_of m (leave n es us) ≡ tokens_of m es
+tokens_beside n m es [] d = tokens_without n m es d
+tokens_beside n m es (u ∷ us) d = tokens_push_other (without n es) (record { name = n; tokens = u ∷ us }) m d ∙ tokens_without n m es d
 
-removed_by : (n : Bytes) (es : List Entry) (ts : List Bytes) → tokens_of n es ≡ ts → apart ts ≡ true → Removed n (oldest ts) (holding es) (holding (rest n es ts))
-removed_by n es [] e a = λ m u. refl
-removed_by n es (t ∷ []) e a =
-    handed_out_lem n t [] es (without n es) e (tokens_none n (without n es) (named_without_same n es)) (λ m d. tokens_without n m es d) refl
-removed_by n es (t ∷ (v ∷ vs)) e a =
-    let last : Entry = record { name = n; tokens = v ∷ vs } in
-    handed_out_lem n t (v ∷ vs) es (without n es ++ last ∷ []) e (tokens_push_same (without n es) last n (named_without_same n es) (same_refl n))
-    (λ m d. tokens_push_other (without n es) last m d ∙ tokens_without n m es d) (not-true _ (and_parts _ _ a).0)
+removed_one : (n x : Bytes) (ts : List Bytes) (i : ℕ) (es : List Entry) → tokens_of n es ≡ ts → Picked ts i x → Removed n (Some x) (holding es) (holding (leave n es (cut i ts)))
+removed_one n x ts i es had k = record {
+  held = ap (has x) had ∙ k.there;
+  gone = ap (has x) (tokens_left n es (cut i ts)) ∙ k.gone;
+  others = λ m u y. ⊎_elim
+      (λ d. let z = same_true m n d in rw z (ap (has u) (tokens_left n es (cut i ts)) ∙ k.others u (y z) ∙ sym (ap (has u) had)))
+      (λ d. ap (has u) (tokens_beside n m es (cut i ts) d)) (cases_Bool (bytes_eq m n));
+}
+
+removed_by : (p : ℕ → ℕ) (n : Bytes) (es : List Entry) (ts : List Bytes) → Within p → tokens_of n es ≡ ts → apart ts ≡ true
+    → Removed n (given p ts) (holding es) (holding (rest p n es ts))
+removed_by p n es [] w e a = λ m u. refl
+removed_by p n es (t ∷ ts) w e a =
+    let i = p (length (t ∷ ts)) in
+    let f = nth_there (t ∷ ts) i (w (length (t ∷ ts)) (omega arith)) in
+    let P : Option Bytes → Type 0 = λ o. Removed n o (holding es) (holding (leave n es (cut i (t ∷ ts)))) in
+    subst P (sym f.1) (removed_one n f.0 (t ∷ ts) i es e (picked (t ∷ ts) i f.0 a f.1))
 
 -- the limits are kept
 module _ (names tokens : ℕ) (es : List Entry) (k : Kept names tokens es) where
@@ -331,17 +324,23 @@ module _ (names tokens : ℕ) (es : List Entry) (k : Kept names tokens es) where
       (every_drop (λ x. nat_le (length x.tokens) tokens) es k.3) (omega (arith, length-drop 1 es, k.2, l)) (named-drop es n d) b refl refl one (omega arith))
       (λ y z d l. kept_push es n (t ∷ []) k.0 k.1 k.3 l d b refl refl one (omega arith))
 
-  pub kept_rest : (n : Bytes) (ts : List Bytes) → length n ≤ 255 → tokens_of n es ≡ ts → Kept names tokens (rest n es ts)
-  kept_rest n [] b e = k
-  kept_rest n (t ∷ []) b e = (sound-without n es k.0, short-without n, omega (arith, length_without n es, k.2), fits-without n)
-  kept_rest n (t ∷ (v ∷ vs)) b e =
-      let a : apart (t ∷ (v ∷ vs)) ≡ true = ap apart (sym e) ∙ apart_of es n k.0 in
-      let s : shorts (t ∷ (v ∷ vs)) ≡ true = ap shorts (sym e) ∙ shorts_of n in
-      let l : length (t ∷ (v ∷ vs)) ≤ tokens = rw e at (fits_of n) in
-      kept_named n (v ∷ vs) b (named_some n t (v ∷ vs) es e) (and_parts _ _ a).1 refl (and_parts _ _ s).1 (omega arith)
+  kept_leave : (n : Bytes) (us : List Bytes) → length n ≤ 255 → named n es ≡ true → apart us ≡ true → shorts us ≡ true → length us ≤ tokens → Kept names tokens (leave n es us)
+  kept_leave n [] b d a c l = (sound-without n es k.0, short-without n, omega (arith, length_without n es, k.2), fits-without n)
+  kept_leave n (u ∷ us) b d a c l = kept_named n (u ∷ us) b d a refl c l
 
-  pub removed : (n : Bytes) (o : Option Bytes) → handed_out n es ≡ o → Removed n o (holding es) (holding (taken n es))
-  removed n o e = let P : Option Bytes → Type 0 = λ x. Removed n x (holding es) (holding (taken n es)) in subst P e (removed_by n es (tokens_of n es) refl (apart_of es n k.0))
+  pub kept_rest : (p : ℕ → ℕ) (n : Bytes) (ts : List Bytes) → Within p → length n ≤ 255 → tokens_of n es ≡ ts → Kept names tokens (rest p n es ts)
+  kept_rest p n [] w b e = k
+  kept_rest p n (t ∷ ts) w b e =
+      let i = p (length (t ∷ ts)) in
+      let f = nth_there (t ∷ ts) i (w (length (t ∷ ts)) (omega arith)) in
+      let q = picked (t ∷ ts) i f.0 (ap apart (sym e) ∙ apart_of es n k.0) f.1 in
+      let l : length (t ∷ ts) ≤ tokens = rw e at (fits_of n) in
+      kept_leave n (cut i (t ∷ ts)) b (named_some n t ts es e) q.still (q.short (ap shorts (sym e) ∙ shorts_of n)) (omega (arith, q.fewer))
+
+  pub removed : (p : ℕ → ℕ) (n : Bytes) (o : Option Bytes) → Within p → handed_out p n es ≡ o → Removed n o (holding es) (holding (taken p n es))
+  removed p n o w e =
+      let P : Option Bytes → Type 0 = λ x. Removed n x (holding es) (holding (taken p n es)) in
+      subst P e (removed_by p n es (tokens_of n es) w refl (apart_of es n k.0))
 
 -- a name that is there has a token
 pub some_of : (es : List Entry) (n : Bytes) → sound es ≡ true → named n es ≡ true → some (tokens_of n es) ≡ true
@@ -377,27 +376,20 @@ length-others names tokens n es k y =
     cond_both (named n es) (without n es) _ (λ xs. length xs < names) (λ d. omega (arith, length_less n es d, k.2))
     (λ _. cond_both (nat_le names (length es)) (drop 1 es) es (λ xs. length xs < names) (λ _. omega (arith, length-drop 1 es, k.2)) (λ l. leb-false _ _ l))
 
-pub oldest-short : (ts : List Bytes) (t : Bytes) → oldest ts ≡ Some t → shorts ts ≡ true → length t ≤ 512
-oldest-short [] t e s = let z : ◌≡◌ {A = ℕ} 0 1 = cc in absurd (omega arith)
-oldest-short (x ∷ ts) t e s =
-    let d : x ≡ t = cc in
-    let l : length x ≤ 512 = leb-true _ _ (and_parts _ _ s).0 in
-    rw d at l
-
 -- a cache that goes by these lists is a store, and keeps to its limits
-pub record TheListsAreAStore (names tokens : ℕ) (es : List Entry) : Type 0 where
+pub record TheListsAreAStore (p : ℕ → ℕ) (names tokens : ℕ) (es : List Entry) : Type 0 where
   pub stores : (n t : Bytes) → length n ≤ 255 → length t ≤ 512 → Stores n t (holding es) (holding (stored names tokens n t es)) (Ok tt)
-  pub hands : (n t out : Bytes) → 512 ≤ length out → length n ≤ 255 → handed_out n es ≡ Some t
-      → Takes n out (fronted t out) (holding es) (holding (taken n es)) (Ok (Some (length t)))
-  pub none : (n out : Bytes) → 512 ≤ length out → length n ≤ 255 → handed_out n es ≡ None → Takes n out out (holding es) (holding (taken n es)) (Ok None)
+  pub hands : (n t out : Bytes) → 512 ≤ length out → length n ≤ 255 → handed_out p n es ≡ Some t
+      → Takes n out (fronted t out) (holding es) (holding (taken p n es)) (Ok (Some (length t)))
+  pub none : (n out : Bytes) → 512 ≤ length out → length n ≤ 255 → handed_out p n es ≡ None → Takes n out out (holding es) (holding (taken p n es)) (Ok None)
   pub kept_stored : (n t : Bytes) → length n ≤ 255 → length t ≤ 512 → Kept names tokens (stored names tokens n t es)
-  pub kept_taken : (n : Bytes) → length n ≤ 255 → Kept names tokens (taken n es)
+  pub kept_taken : (n : Bytes) → length n ≤ 255 → Kept names tokens (taken p n es)
 
-pub lists_are_a_store : (names tokens : ℕ) (es : List Entry) → Kept names tokens es → TheListsAreAStore names tokens es
-lists_are_a_store names tokens es k = record {
+pub lists_are_a_store : (p : ℕ → ℕ) (names tokens : ℕ) (es : List Entry) → Within p → Kept names tokens es → TheListsAreAStore p names tokens es
+lists_are_a_store p names tokens es w k = record {
   stores = λ n t a b. inserts a b (inserted names tokens n t es k.0);
-  hands = λ n t out a b e. handing a b t (oldest-short (tokens_of n es) t e (shorts_of names tokens es k n)) refl (removed names tokens es k n (Some t) e);
-  none = λ n out a b e. none a b refl (removed names tokens es k n None e);
+  hands = λ n t out a b e. handing a b t (nth_short (tokens_of n es) (p (length (tokens_of n es))) t e (shorts_of names tokens es k n)) refl (removed names tokens es k p n (Some t) w e);
+  none = λ n out a b e. none a b refl (removed names tokens es k p n None w e);
   kept_stored = kept_stored names tokens es k;
-  kept_taken = λ n b. kept_rest names tokens es k n (tokens_of n es) b refl;
+  kept_taken = λ n b. kept_rest names tokens es k p n (tokens_of n es) w b refl;
 }

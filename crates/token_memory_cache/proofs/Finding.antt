@@ -8,7 +8,7 @@ use Rattle.std.proofs.lemmas.Iterator.Adapters.{position_from-zero}
 use Rattle.record_pool.specs.Chains.{without as cut}
 use Rattle.token_store.specs.Store.{Bytes}
 use Rattle.token_memory_cache.specs.Cache.{Entry, named, tokens_of, without, apart, some, sound}
-use Rattle.token_memory_cache.proofs.Caches.{same_true}
+use Rattle.token_memory_cache.proofs.Sameness.{same_true}
 
 abbrev pub called : Bytes → Entry → Bool
 called n e = bytes_eq n e.name

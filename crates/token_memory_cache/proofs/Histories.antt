@@ -6,14 +6,16 @@ use Rattle.std.proofs.lemmas.Slice.Eq.{bytes_eq-Decides}
 use Rattle.token_store.specs.Store.{Bytes}
 use Rattle.token_store.specs.Laws.Call.{insertion, taking}
 use Rattle.token_memory_cache.specs.Cache.{Entry, Cache, has, named, tokens_of, without, others_of, added, stored, handed_out, taken, holding, apart, some, sound}
-use Rattle.token_memory_cache.specs.Histories.{Event, History, Throughout, entries_after, held, came, last_use, CameFirst, UnusedLongest, OldestFirst, HandsOutTheOldest, PastTheLimit, PushedOut, PushesOutTheUnused, Leaves, LosesOnlySo, Comes, AddsOnlySo, HoldsWhatIsInserted}
+use Rattle.token_memory_cache.specs.Orders.{Within, first, last}
+use Rattle.token_memory_cache.specs.Histories.{Event, History, Throughout, entries_after, held, came, last_use, CameFirst, CameLast, UnusedLongest, HandsOut, HandsOutTheOldest, HandsOutTheNewest, PastTheLimit, PushedOut, PushesOutTheUnused, Leaves, LosesOnlySo, Comes, AddsOnlySo, HoldsWhatIsInserted}
 use Rattle.token_memory_cache.specs.Histories.Leaves.{handed_out as was_handed_out, oldest_of_full, name_pushed_out}
-use Rattle.token_memory_cache.proofs.Caches.{same_refl, same_true, same_ne, tokens_none, tokens_without, tokens_push_other, tokens_push_same, has_push, apart_of, added_by, fits_of, inserted, removed, some_of, stored_is}
+use Rattle.token_memory_cache.proofs.Sameness.{same_refl, same_true, same_ne}
+use Rattle.token_memory_cache.proofs.Caches.{tokens_none, tokens_without, tokens_push_other, tokens_push_same, has_push, apart_of, added_by, fits_of, inserted, removed, some_of, stored_is}
 use Rattle.token_memory_cache.proofs.Rising.{Rising}
 use Rattle.token_memory_cache.proofs.Turns.{Turn}
 use Rattle.token_memory_cache.proofs.Turns.Turn.{refused_insert, refused_take, found_none, no_room, stores, hands}
 use Rattle.token_memory_cache.proofs.Ageing.{Met, met, each, others_by, named-others}
-use Rattle.token_memory_cache.proofs.Taking.{at_token, removal}
+use Rattle.token_memory_cache.proofs.Taking.{at_token, first_least, last_most}
 
 not_both : {X : Type 0} (b : Bool) → b ≡ false → b ≡ true → X
 not_both b f t = absurd (false≢true (sym f ∙ t))
@@ -67,7 +69,7 @@ has_itself : (k : ℕ) (t : Bytes) (ts : List Bytes) → has t (added k t ts) �
 has_itself k t ts =
     added_by (λ us. has t us ≡ true) k t ts (λ h. h) (λ _ _. has_push (drop 1 ts) t t ∙ or_right _ _ (same_refl t)) (λ _ _. has_push ts t t ∙ or_right _ _ (same_refl t))
 
-module _ (names tokens : ℕ) (x : Event) (xs : History) (m : Met names tokens x xs) where
+module _ (p : ℕ → ℕ) (within : Within p) (names tokens : ℕ) (x : Event) (xs : History) (m : Met p names tokens x xs) where
   abbrev es : List Entry
   es = entries_after xs
 
@@ -75,7 +77,7 @@ module _ (names tokens : ℕ) (x : Event) (xs : History) (m : Met names tokens x
   zs = x.left.entries
 
   -- the ways of a call that is known
-  inserted_way : (n t : Bytes) → x.call ≡ insertion n t (Ok tt) → Turn names tokens x.call es zs
+  inserted_way : (n t : Bytes) → x.call ≡ insertion n t (Ok tt) → Turn p names tokens x.call es zs
       → ((0 < names → 0 < tokens → ⊥) × (es ≡ [])) ⊎ ((0 < names) × (0 < tokens) × (zs ≡ stored names tokens n t es))
   inserted_way n t c (refused_insert n' t' e d w) = cc
   inserted_way n t c (refused_take n' out out' e d w) = cc
@@ -87,35 +89,30 @@ module _ (names tokens : ℕ) (x : Event) (xs : History) (m : Met names tokens x
       inr (y, z, w ∙ (ap (λ i. stored names tokens i t' es) p ∙ ap (λ i. stored names tokens n i es) q))
   inserted_way n t c (hands n' out out' t' k d f h w) = cc
 
-  taken_way : (n out out' : Bytes) (k : ℕ) → x.call ≡ taking n out out' (Ok (Some k)) → Turn names tokens x.call es zs
-      → (handed_out n es ≡ Some (take k out')) × (zs ≡ taken n es)
+  taken_way : (n out out' : Bytes) (k : ℕ) → x.call ≡ taking n out out' (Ok (Some k)) → Turn p names tokens x.call es zs
+      → (handed_out p n es ≡ Some (take k out')) × (zs ≡ taken p n es)
   taken_way n out out' k c (refused_insert n' t' e d w) = cc
   taken_way n out out' k c (refused_take n' o o' e d w) = cc
   taken_way n out out' k c (found_none n' o o' d z w) = cc
   taken_way n out out' k c (no_room n' t' d z w v) = cc
   taken_way n out out' k c (stores n' t' d y z w) = cc
   taken_way n out out' k c (hands n' o o' t' j d f h w) =
-      let p : n' ≡ n = cc in
+      let same : n' ≡ n = cc in
       let q : o' ≡ out' = cc in
       let r : j ≡ k = cc in
-      (ap (λ i. handed_out i es) (sym p) ∙ (h ∙ ap Some (sym f ∙ (ap (λ i. take i o') r ∙ ap (take k) q))), w ∙ ap (λ i. taken i es) p)
+      (ap (λ i. handed_out p i es) (sym same) ∙ (h ∙ ap Some (sym f ∙ (ap (λ i. take i o') r ∙ ap (take k) q))), w ∙ ap (λ i. taken p i es) same)
 
-  -- what a take hands out came first
-  came_first : (n t : Bytes) → handed_out n es ≡ Some t → CameFirst n t xs
-  came_first n t h =
-      let r = removal t (tokens_of n es) h in
-      record { here = r.was; first = λ u d e. r.first (λ u. came n u xs) (m.aged.by_coming n) u d e }
+  -- what a take hands out is held, and is as the order says
+  handed_is_held : (n t : Bytes) → handed_out p n es ≡ Some t → held xs n t ≡ true
+  handed_is_held n t h = (removed names tokens es m.aged.kept p n (Some t) within h).held
 
-  oldest_by : Turn names tokens x.call es zs → OldestFirst x.call xs
-  oldest_by (refused_insert n t e c w) = subst (λ y. OldestFirst y xs) (sym c) tt
-  oldest_by (refused_take n out out' e c w) = subst (λ y. OldestFirst y xs) (sym c) tt
-  oldest_by (found_none n out out' c z w) = subst (λ y. OldestFirst y xs) (sym c) (λ t. ap (has t) z)
-  oldest_by (no_room n t c z w v) = subst (λ y. OldestFirst y xs) (sym c) tt
-  oldest_by (stores n t c y z w) = subst (λ y. OldestFirst y xs) (sym c) tt
-  oldest_by (hands n out out' t k c f h w) = subst (λ y. OldestFirst y xs) (sym c) (subst (λ i. CameFirst n i xs) (sym f) (came_first n t h))
-
-  pub oldest_first : HandsOutTheOldest names tokens x xs
-  oldest_first = oldest_by m.turn
+  hands_out_by : (P : Bytes → Bytes → History → Type 0) → ((n t : Bytes) → handed_out p n es ≡ Some t → P n t xs) → Turn p names tokens x.call es zs → HandsOut P x.call xs
+  hands_out_by P each (refused_insert n t e c w) = subst (λ y. HandsOut P y xs) (sym c) tt
+  hands_out_by P each (refused_take n out out' e c w) = subst (λ y. HandsOut P y xs) (sym c) tt
+  hands_out_by P each (found_none n out out' c z w) = subst (λ y. HandsOut P y xs) (sym c) (λ t. ap (has t) z)
+  hands_out_by P each (no_room n t c z w v) = subst (λ y. HandsOut P y xs) (sym c) tt
+  hands_out_by P each (stores n t c y z w) = subst (λ y. HandsOut P y xs) (sym c) tt
+  hands_out_by P each (hands n out out' t k c f h w) = subst (λ y. HandsOut P y xs) (sym c) (subst (λ i. P n i xs) (sym f) (each n t h))
 
   -- after an insert within the limits above zero: the tokens of its name, and those of another one
   own_tokens : (n t : Bytes) → 0 < names → 0 < tokens → zs ≡ stored names tokens n t es → tokens_of n zs ≡ added tokens t (tokens_of n es)
@@ -218,7 +215,7 @@ module _ (names tokens : ℕ) (x : Event) (xs : History) (m : Met names tokens x
       (cases_Bool (bytes_eq n p.0.name)))
       (λ _ _ z. not_both _ z h)
 
-  goes : (n t : Bytes) → held xs n t ≡ true → holding zs n t ≡ false → Turn names tokens x.call es zs → Leaves names tokens n t x xs
+  goes : (n t : Bytes) → held xs n t ≡ true → holding zs n t ≡ false → Turn p names tokens x.call es zs → Leaves names tokens n t x xs
   goes n t h z (refused_insert n' t' e c w) = not_both _ z (ap (λ y. holding y n t) w ∙ h)
   goes n t h z (refused_take n' out out' e c w) = not_both _ z (ap (λ y. holding y n t) w ∙ h)
   goes n t h z (found_none n' out out' c v w) = not_both _ z (ap (λ y. holding y n t) w ∙ h)
@@ -232,7 +229,7 @@ module _ (names tokens : ℕ) (x : Event) (xs : History) (m : Met names tokens x
       (λ q. goes_with_its_name n t n' t' c y q h (sym (ap (has t) (other_tokens n' t' y v w n q)) ∙ z))
       (cases_Bool (bytes_eq n n'))
   goes n t h z (hands n' out out' t' k c f d w) =
-      let r = removed names tokens es m.aged.kept n' (Some t') d in
+      let r = removed names tokens es m.aged.kept p n' (Some t') within d in
       let other : (n ≡ n' → t ≢ t') → ⊥ = λ q. false≢true (sym z ∙ (ap (λ y. holding y n t) w ∙ (r.others n t q ∙ h))) in
       ⊎_elim
       (λ p. ⊎_elim
@@ -245,8 +242,8 @@ module _ (names tokens : ℕ) (x : Event) (xs : History) (m : Met names tokens x
   gone : (n t : Bytes) → held xs n t ≡ true → Leaves names tokens n t x xs → holding zs n t ≡ false
   gone n t h (was_handed_out {out = out} {out' = out'} {k = k} c f) =
       let w = taken_way n out out' k c m.turn in
-      let r = removed names tokens es m.aged.kept n (Some (take k out')) w.0 in
-      ap (λ y. holding y n t) w.1 ∙ subst (λ i. holding (taken n es) n i ≡ false) f r.gone
+      let r = removed names tokens es m.aged.kept p n (Some (take k out')) within w.0 in
+      ap (λ y. holding y n t) w.1 ∙ subst (λ i. holding (taken p n es) n i ≡ false) f r.gone
   gone n t h (oldest_of_full {u = u} c z l first) =
       let ts : List Bytes = tokens_of n es in
       let full : tokens ≤ length ts = omega arith in
@@ -267,7 +264,7 @@ module _ (names tokens : ℕ) (x : Event) (xs : History) (m : Met names tokens x
       ⊎_elim (λ w. absurd (w.0 c.names_allowed c.tokens_allowed)) (λ w. ap (has t) (own_tokens n t w.0 w.1 w.2) ∙ has_itself tokens t (tokens_of n es))
       (inserted_way n t c.insert m.turn)
 
-  comes : (n t : Bytes) → held xs n t ≡ false → holding zs n t ≡ true → Turn names tokens x.call es zs → Comes names tokens n t x
+  comes : (n t : Bytes) → held xs n t ≡ false → holding zs n t ≡ true → Turn p names tokens x.call es zs → Comes names tokens n t x
   comes n t z h (refused_insert n' t' e c w) = not_both _ z (sym (ap (λ y. holding y n t) w) ∙ h)
   comes n t z h (refused_take n' out out' e c w) = not_both _ z (sym (ap (λ y. holding y n t) w) ∙ h)
   comes n t z h (found_none n' out out' c v w) = not_both _ z (sym (ap (λ y. holding y n t) w) ∙ h)
@@ -278,14 +275,34 @@ module _ (names tokens : ℕ) (x : Event) (xs : History) (m : Met names tokens x
       (λ q. record { insert = c ∙ (ap (λ i. insertion i t' (Ok tt)) (sym q.0) ∙ ap (λ i. insertion n i (Ok tt)) (sym q.1)); names_allowed = y; tokens_allowed = v })
       (inserted names tokens n' t' es m.aged.kept.0 n t (sym (ap (λ y. holding y n t) w) ∙ h))
   comes n t z h (hands n' out out' t' k c f d w) =
-      let r = removed names tokens es m.aged.kept n' (Some t') d in
-      let h' : holding (taken n' es) n t ≡ true = sym (ap (λ y. holding y n t) w) ∙ h in
+      let r = removed names tokens es m.aged.kept p n' (Some t') within d in
+      let h' : holding (taken p n' es) n t ≡ true = sym (ap (λ y. holding y n t) w) ∙ h in
       let other : (n ≡ n' → t ≢ t') → ⊥ = λ q. false≢true (sym z ∙ (sym (r.others n t q) ∙ h')) in
       absurd (other (λ p q. not_both _ r.gone (rw (p, q) at h')))
 
   pub adds_only_so : AddsOnlySo names tokens x xs
   adds_only_so n t z = ((λ h. comes n t z h m.turn), holds_what_is_inserted n t)
 
+-- the orders
+pub hands_out_the_oldest : (names tokens : ℕ) (x : Event) (xs : History) → Met first names tokens x xs → HandsOutTheOldest names tokens x xs
+hands_out_the_oldest names tokens x xs m =
+    hands_out_by first (λ k z. z) names tokens x xs m CameFirst
+    (λ n t h. record {
+      here = handed_is_held first (λ k z. z) names tokens x xs m n t h;
+      first = first_least (λ u. came n u xs) (tokens_of n (entries_after xs)) t (m.aged.by_coming n) h;
+    })
+    m.turn
+
+pub hands_out_the_newest : (names tokens : ℕ) (x : Event) (xs : History) → Met last names tokens x xs → HandsOutTheNewest names tokens x xs
+hands_out_the_newest names tokens x xs m =
+    let within : Within last = λ k z. omega arith in
+    hands_out_by last within names tokens x xs m CameLast
+    (λ n t h. record {
+      here = handed_is_held last within names tokens x xs m n t h;
+      last = last_most (λ u. came n u xs) (tokens_of n (entries_after xs)) t (m.aged.by_coming n) h;
+    })
+    m.turn
+
 -- and so throughout
-pub throughout : (P : ℕ → ℕ → Event → History → Type 0) → ((names tokens : ℕ) (x : Event) (xs : History) → Met names tokens x xs → P names tokens x xs) → (c : Cache) → Throughout P c
-throughout P h c names tokens nr tr xs r = each names tokens (P names tokens) (h names tokens) xs (met names tokens nr tr xs c r)
+pub throughout : (p : ℕ → ℕ) → Within p → (P : ℕ → ℕ → Event → History → Type 0) → ((names tokens : ℕ) (x : Event) (xs : History) → Met p names tokens x xs → P names tokens x xs) → (c : Cache) → Throughout p P c
+throughout p w P h c names tokens nr tr xs r = each p names tokens (P names tokens) (h names tokens) xs (met p w names tokens nr tr xs c r)

@@ -1,3 +1,6 @@
+pub mod Sameness
+pub mod Rising
+pub mod Taking
 pub mod Caches
 pub mod Finding
 pub mod Texts
@@ -5,8 +8,6 @@ pub mod Shelving
 pub mod Lending
 pub mod Storing
 pub mod Steps
-pub mod Rising
-pub mod Taking
 pub mod Turns
 pub mod Ageing
 pub mod Histories

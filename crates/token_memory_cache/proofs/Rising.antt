@@ -1,6 +1,7 @@
 -- Lists along which a number rises.
-use Rattle.std.proofs.Common.{◌≡◌, ℕ, ◌<◌, List, [], ◌∷◌, ◌++◌, drop, arith}
+use Rattle.std.proofs.Common.{◌≡◌, ℕ, zero, suc, ◌+◌, ◌<◌, List, [], ◌∷◌, ◌++◌, take, drop, refl, ap, sym, subst, arith}
 use Rattle.std.specs.List.{AllByRecursion}
+use Rattle.record_pool.specs.Chains.{without as cut}
 
 abbrev pub Rising : {X : Type 0} → (X → ℕ) → List X → Type 0
 Rising f [] = Unit {0}
@@ -37,3 +38,25 @@ module _ {X : Type 0} where
   pub rising-drop : (f : X → ℕ) (xs : List X) → Rising f xs → Rising f (drop 1 xs)
   rising-drop f [] r = tt
   rising-drop f (x ∷ xs) r = r.1
+
+  -- without one element
+  pub cut-later : (x : X) (k : ℕ) (xs : List X) → cut (suc k) (x ∷ xs) ≡ x ∷ cut k xs
+  cut-later x k xs = let next : suc k + 1 ≡ suc (k + 1) = omega arith in ap (λ j. (x ∷ take k xs) ++ drop j (x ∷ xs)) next
+
+  cut-none : (k : ℕ) → cut {X = X} k [] ≡ []
+  cut-none zero = refl
+  cut-none (suc k) = drop-none (suc k + 1)
+    where
+      drop-none : (k : ℕ) → drop {A = X} k [] ≡ []
+      drop-none zero = refl
+      drop-none (suc k) = refl
+
+  all-cut : (P : X → Type 0) (k : ℕ) (xs : List X) → AllByRecursion P xs → AllByRecursion P (cut k xs)
+  all-cut P k [] p = subst (AllByRecursion P) (sym (cut-none k)) tt
+  all-cut P zero (x ∷ xs) p = p.1
+  all-cut P (suc k) (x ∷ xs) p = subst (AllByRecursion P) (sym (cut-later x k xs)) (p.0, all-cut P k xs p.1)
+
+  pub rising-cut : (f : X → ℕ) (k : ℕ) (xs : List X) → Rising f xs → Rising f (cut k xs)
+  rising-cut f k [] r = subst (Rising f) (sym (cut-none k)) tt
+  rising-cut f zero (x ∷ xs) r = r.1
+  rising-cut f (suc k) (x ∷ xs) r = subst (Rising f) (sym (cut-later x k xs)) (all-cut (λ y. f x < f y) k xs r.0, rising-cut f k xs r.1)

@@ -1,5 +1,5 @@
 -- What each step does to a shelf, over its pools before and after.
-use Rattle.std.proofs.Common.{◌≡◌, ℕ, suc, ◌+◌, ◌*◌, ◌^◌, ◌<◌, ◌≤◌, true, false, if◌then◌else◌, nat_le, List, [], ◌∷◌, ◌++◌, map, length, slice_index_or, take, drop, Some, None, sym, refl, ap, ap₂, ◌∙◌, subst, arith}
+use Rattle.std.proofs.Common.{◌≡◌, ℕ, zero, suc, ◌+◌, ◌*◌, ◌^◌, ◌<◌, ◌≤◌, true, false, if◌then◌else◌, nat_le, List, [], ◌∷◌, ◌++◌, map, length, slice_index_or, take, drop, Some, None, sym, refl, ap, ap₂, ◌∙◌, subst, arith}
 use Rattle.std.specs.List.{sum_by}
 use Rattle.std.proofs.lemmas.Bool.{and_parts, cond_both, cond-true, cond-false, le-leb, lt-leb, leb-true, leb-false}
 use Rattle.std.proofs.lemmas.List.{length-drop, map-append, drop-map, take-append-drop, drop_more, get_or-map}
@@ -9,12 +9,12 @@ use Rattle.std.proofs.lemmas.List.Sums.{sum_by-cons}
 use Rattle.record_pool.specs.declared.chain.Chain.{Chain}
 use Rattle.record_pool.specs.declared.pool.Pool.{Pool}
 use Rattle.record_pool.specs.Chains.{empty_chain, without as cut}
-use Rattle.record_pool.specs.Pools.{held, items, Divided, Becomes as PoolBecomes}
+use Rattle.record_pool.specs.Pools.{nth, held, items, Divided, Becomes as PoolBecomes}
 use Rattle.record_pool.proofs.Divisions.{to_front, from_front, all_counted, length-held, without_empty}
 use Rattle.record_pool.proofs.Holding.{Holds, holds, given, to_end}
 use Rattle.record_pool.proofs.Steps.{map-without}
 use Rattle.token_store.specs.Store.{Bytes}
-use Rattle.token_memory_cache.specs.Cache.{has, oldest, added, fits}
+use Rattle.token_memory_cache.specs.Cache.{has, added, fits}
 use Rattle.token_memory_cache.specs.declared.shelf.NameEntry.{NameEntry}
 use Rattle.token_memory_cache.specs.declared.shelf.Shelf.{Shelf}
 use Rattle.token_memory_cache.specs.Shelves.{listed, chains, entry_in, entries, Stands, TakenOff, Becomes, Refilled, Room}
@@ -238,12 +238,12 @@ refilled s m t' c c' c'' ps fs most t st absent k b =
 
 -- ---- a token taken out
 
-pub popped_out : (s : Shelf) (t' : Pool Bytes) (c c' : Chain) (ps fs : List ℕ) → Stands (c ∷ []) s → PoolBecomes s.tokens t' c' (chains s) ps (drop 1 (held s.tokens c)) fs
-    → Refilled s (shelf s.names t' s.used) c' (drop 1 (items s.tokens c))
-popped_out s t' c c' ps fs st b =
+pub popped_out : (s : Shelf) (t' : Pool Bytes) (c c' : Chain) (k : ℕ) (ps fs : List ℕ) → Stands (c ∷ []) s → PoolBecomes s.tokens t' c' (chains s) ps (cut k (held s.tokens c)) fs
+    → Refilled s (shelf s.names t' s.used) c' (cut k (items s.tokens c))
+popped_out s t' c c' k ps fs st b =
     let ts = items s.tokens c in
     let g = given s.tokens c (chains s) st.tokens in
-    let h = holds s.tokens t' c c' (chains s) ps _ fs (drop 1 ts) st.tokens b (ap (drop 1) (sym g) ∙ drop-map (λ y. Some y) 1 ts) in
+    let h = holds s.tokens t' c c' (chains s) ps _ fs (cut k ts) st.tokens b (ap (cut k) (sym g) ∙ sym (map-without (λ y. Some y) k ts)) in
     record {
       stands = record { names = st.names; tokens = h.divided; blank = (st.blank.0, h.blank ∙ st.blank.1) };
       tokens = h.gives;
@@ -251,9 +251,10 @@ popped_out s t' c c' ps fs st b =
       size = record { names = refl; tokens = h.size };
     }
 
-first_is : (ts : List Bytes) (t : Bytes) → slice_index_or (map (λ y. Some y) ts) 0 None ≡ Some t → oldest ts ≡ Some t
-first_is [] t e = cc
-first_is (x ∷ ts) t e = e
+nth_is : (ts : List Bytes) (k : ℕ) (t : Bytes) → slice_index_or (map (λ y. Some y) ts) k None ≡ Some t → nth ts k ≡ Some t
+nth_is [] k t e = cc
+nth_is (x ∷ ts) zero t e = e
+nth_is (x ∷ ts) (suc k) t e = nth_is ts k t e
 
-pub oldest_is : (s : Shelf) (c : Chain) (t : Bytes) → Stands (c ∷ []) s → slice_index_or (held s.tokens c) 0 None ≡ Some t → oldest (items s.tokens c) ≡ Some t
-oldest_is s c t st e = first_is (items s.tokens c) t (ap (λ xs. slice_index_or xs 0 None) (given s.tokens c (chains s) st.tokens) ∙ e)
+pub given_is : (s : Shelf) (c : Chain) (k : ℕ) (t : Bytes) → Stands (c ∷ []) s → slice_index_or (held s.tokens c) k None ≡ Some t → nth (items s.tokens c) k ≡ Some t
+given_is s c k t st e = nth_is (items s.tokens c) k t (ap (λ xs. slice_index_or xs k None) (given s.tokens c (chains s) st.tokens) ∙ e)

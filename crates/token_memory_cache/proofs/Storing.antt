@@ -9,7 +9,8 @@ use Rattle.record_pool.specs.Chains.{empty_chain, without as cut}
 use Rattle.record_pool.specs.Pools.{items}
 use Rattle.record_pool.proofs.Divisions.{without_empty, all_counted}
 use Rattle.token_store.specs.Store.{Bytes}
-use Rattle.token_memory_cache.specs.Cache.{Entry, others_of, named, tokens_of, without, added, stored, oldest, rest, taken, some, sound, fits, Kept}
+use Rattle.token_memory_cache.specs.Cache.{Entry, others_of, named, tokens_of, without, added, stored, given, left, leave, rest, taken, some, sound, fits, Kept}
+use Rattle.token_memory_cache.specs.Orders.{Within}
 use Rattle.token_memory_cache.specs.Lent.{nobody}
 use Rattle.token_memory_cache.specs.declared.shelf.Shelf.{Shelf}
 use Rattle.token_memory_cache.specs.Shelves.{listed, chains, entry_in, entries, Stands, SameSize, TakenOff, Becomes, Opened, Refilled, Room, Sound, Took}
@@ -17,6 +18,7 @@ use Rattle.token_memory_cache.proofs.Caches.{stored_is, fits_others, length-othe
 use Rattle.token_memory_cache.proofs.Finding.{At}
 use Rattle.token_memory_cache.proofs.Lending.{beside}
 use Rattle.token_memory_cache.proofs.Shelving.{length-items}
+use Rattle.token_memory_cache.proofs.Taking.{rest_is}
 
 pub opened_found : (names : ℕ) (n : Bytes) (s m : Shelf) (c : Chain) (k : ℕ) → At n (entries s) k → TakenOff k s m c → Opened names n s m c
 opened_found names n s m c k a t = record {
@@ -75,15 +77,13 @@ stored_sound names tokens n t s m m' s' c c' ln lt h r f b e = record {
 
 -- ---- a take
 
-rest_more : (n : Bytes) (es : List Entry) (ts : List Bytes) → 0 < length (drop 1 ts) → rest n es ts ≡ without n es ++ record { name = n; tokens = drop 1 ts } ∷ []
-rest_more n es [] z = absurd (omega arith)
-rest_more n es (t ∷ []) z = absurd (omega arith)
-rest_more n es (t ∷ (u ∷ us)) z = refl
+leave_more : (n : Bytes) (es : List Entry) (us : List Bytes) → 0 < length us → leave n es us ≡ without n es ++ record { name = n; tokens = us } ∷ []
+leave_more n es [] z = absurd (omega arith)
+leave_more n es (u ∷ us) z = refl
 
-rest_last : (n : Bytes) (es : List Entry) (ts : List Bytes) (x : Bytes) → oldest ts ≡ Some x → length (drop 1 ts) ≡ 0 → rest n es ts ≡ without n es
-rest_last n es [] x e z = cc
-rest_last n es (t ∷ []) x e z = refl
-rest_last n es (t ∷ (u ∷ us)) x e z = absurd (omega arith)
+leave_last : (n : Bytes) (es : List Entry) (us : List Bytes) → length us ≡ 0 → leave n es us ≡ without n es
+leave_last n es [] z = refl
+leave_last n es (u ∷ us) z = absurd (omega arith)
 
 -- of a name that is there
 pub some_token : (n : Bytes) (s m : Shelf) (c : Chain) (k : ℕ) → sound (entries s) ≡ true → At n (entries s) k → TakenOff k s m c → 0 < c.count
@@ -109,43 +109,50 @@ back_room n s m m' c c' k ts st a t f =
     length-cut : (k : ℕ) (es : List Entry) → k < length es → length (cut k es) < length es
     length-cut k es h = omega (arith, length-append (take k es) (drop (k + 1) es), length-take-le k es (omega arith), length-drop (k + 1) es)
 
-pub took_none : (n : Bytes) (s : Shelf) → named n (entries s) ≡ false → (names tokens : ℕ) → Sound names tokens s → Took names tokens n s s None
-took_none n s a names tokens h =
+pub took_none : (p : ℕ → ℕ) (n : Bytes) (s : Shelf) → named n (entries s) ≡ false → (names tokens : ℕ) → Sound names tokens s → Took p names tokens n s s None
+took_none p n s a names tokens h =
     let none = tokens_none n (entries s) a in
-    record { sound = h; answer = sym (ap oldest none); left = sym (ap (rest n (entries s)) none); size = record { names = refl; tokens = refl } }
+    record { sound = h; answer = sym (ap (given p) none); left = sym (ap (rest p n (entries s)) none); size = record { names = refl; tokens = refl } }
 
-module _ (n : Bytes) (s m m' : Shelf) (c c' : Chain) (k : ℕ) (x : Bytes) (ln : length n ≤ 255) (a : At n (entries s) k) (t : TakenOff k s m c) (f : Refilled m m' c' (drop 1 (items m.tokens c)))
-    (o : oldest (items m.tokens c) ≡ Some x) where
+module _ (p : ℕ → ℕ) (w : Within p) (n : Bytes) (s m m' : Shelf) (c c' : Chain) (k : ℕ) (x : Bytes) (ln : length n ≤ 255) (a : At n (entries s) k) (t : TakenOff k s m c)
+    (f : Refilled m m' c' (left p (items m.tokens c))) (o : given p (items m.tokens c) ≡ Some x) where
   had : items m.tokens c ≡ tokens_of n (entries s)
   had = t.tokens nobody ∙ a.tokens nobody
 
   others : entries m' ≡ without n (entries s)
   others = f.left ∙ t.left ∙ a.cut
 
-  still : items m'.tokens c' ≡ drop 1 (tokens_of n (entries s))
-  still = f.tokens ∙ ap (drop 1) had
+  still : items m'.tokens c' ≡ left p (tokens_of n (entries s))
+  still = f.tokens ∙ ap (left p) had
 
-  kept : (names tokens : ℕ) (s' : Shelf) → Sound names tokens s → Stands [] s' → entries s' ≡ taken n (entries s) → SameSize m' s' → Took names tokens n s s' (Some x)
+  gives : given p (tokens_of n (entries s)) ≡ Some x
+  gives = sym (ap (given p) had) ∙ o
+
+  kept : (names tokens : ℕ) (s' : Shelf) → Sound names tokens s → Stands [] s' → entries s' ≡ taken p n (entries s) → SameSize m' s' → Took p names tokens n s s' (Some x)
   kept names tokens s' h st e z = record {
     sound = record {
       stands = st;
-      kept = subst (Kept names tokens) (sym e) (kept_rest names tokens (entries s) h.kept n (tokens_of n (entries s)) ln refl);
+      kept = subst (Kept names tokens) (sym e) (kept_rest names tokens (entries s) h.kept p n (tokens_of n (entries s)) w ln refl);
       name_records = omega (arith, h.name_records, t.size.names, f.size.names, z.names);
       token_records = omega (arith, h.token_records, t.size.tokens, f.size.tokens, z.tokens);
     };
-    answer = sym o ∙ ap oldest had;
+    answer = sym gives;
     left = e;
     size = record { names = z.names ∙ f.size.names ∙ t.size.names; tokens = z.tokens ∙ f.size.tokens ∙ t.size.tokens };
   }
 
-  pub took_more : (s' : Shelf) → 0 < c'.count → Becomes [] m' s' (entries m' ++ record { name = n; tokens = items m'.tokens c' } ∷ []) → (names tokens : ℕ) → Sound names tokens s → Took names tokens n s s' (Some x)
+  leaves : taken p n (entries s) ≡ leave n (entries s) (left p (tokens_of n (entries s)))
+  leaves = rest_is p n (entries s) (tokens_of n (entries s)) x gives
+
+  pub took_more : (s' : Shelf) → 0 < c'.count → Becomes [] m' s' (entries m' ++ record { name = n; tokens = items m'.tokens c' } ∷ []) → (names tokens : ℕ) → Sound names tokens s → Took p names tokens n s s' (Some x)
   took_more s' z b names tokens h =
       let l = length-items m'.tokens c' (chains m') f.stands.tokens in
-      kept names tokens s' h b.stands
-      (b.left ∙ ap₂ (λ es ts. es ++ record { name = n; tokens = ts } ∷ []) others still ∙ sym (rest_more n (entries s) (tokens_of n (entries s)) (omega (arith, ap length still)))) b.size
+      let more = leave_more n (entries s) (left p (tokens_of n (entries s))) (omega (arith, ap length still)) in
+      kept names tokens s' h b.stands (b.left ∙ ap₂ (λ es ts. es ++ record { name = n; tokens = ts } ∷ []) others still ∙ sym (leaves ∙ more)) b.size
 
-  pub took_last : c'.count ≡ 0 → (names tokens : ℕ) → Sound names tokens s → Took names tokens n s m' (Some x)
+  pub took_last : c'.count ≡ 0 → (names tokens : ℕ) → Sound names tokens s → Took p names tokens n s m' (Some x)
   took_last z names tokens h =
       let l = length-items m'.tokens c' (chains m') f.stands.tokens in
+      let none = leave_last n (entries s) (left p (tokens_of n (entries s))) (omega (arith, ap length still)) in
       kept names tokens m' h (record { names = f.stands.names; tokens = without_empty m'.tokens c' (chains m') z f.stands.tokens; blank = f.stands.blank })
-      (others ∙ sym (rest_last n (entries s) (tokens_of n (entries s)) x (sym (ap oldest had) ∙ o) (omega (arith, ap length still)))) (record { names = refl; tokens = refl })
+      (others ∙ sym (leaves ∙ none)) (record { names = refl; tokens = refl })

@@ -7,6 +7,8 @@ use Rattle.std.specs.Str.{bytes_eq}
 use Rattle.answers.specs.declared.Refusal.{Refusal}
 use Rattle.answers.specs.declared.Refusal.TheVariants.{SmallBuffer, LongEntry}
 use Rattle.answers.specs.Buffers.{fronted}
+use Rattle.record_pool.specs.Chains.{without as cut}
+use Rattle.record_pool.specs.Pools.{nth}
 use Rattle.token_store.specs.declared.TheConstants.{MAX_NAME_LEN, MAX_STORED_LEN}
 use Rattle.token_memory_cache.specs.declared.cache.TheConstants.{MAX_SERVER_NAMES, MAX_TOKENS_PER_SERVER}
 use Rattle.token_store.specs.Store.{Bytes, Holds}
@@ -51,21 +53,27 @@ stored names tokens n t es =
     else if named n es then without n es ++ record { name = n; tokens = added tokens t (tokens_of n es) } ∷ []
     else (if nat_le names (length es) then drop 1 es else es) ++ record { name = n; tokens = t ∷ [] } ∷ []
 
--- what a take hands out, and what it leaves: the name is then used last, or removed where it has no token left
-abbrev pub oldest : List Bytes → Option Bytes
-oldest [] = None
-oldest (t ∷ ts) = Some t
+-- what a take hands out of a name's tokens in the order p, and what it leaves of them
+abbrev pub given : (ℕ → ℕ) → List Bytes → Option Bytes
+given p ts = nth ts (p (length ts))
 
-abbrev pub rest : Bytes → List Entry → List Bytes → List Entry
-rest n es [] = es
-rest n es (t ∷ []) = without n es
-rest n es (t ∷ (u ∷ us)) = without n es ++ record { name = n; tokens = u ∷ us } ∷ []
+abbrev pub left : (ℕ → ℕ) → List Bytes → List Bytes
+left p ts = cut (p (length ts)) ts
 
-abbrev pub handed_out : Bytes → List Entry → Option Bytes
-handed_out n es = oldest (tokens_of n es)
+-- a name of which a take leaves these tokens is then used last, or removed where there are none
+abbrev pub leave : Bytes → List Entry → List Bytes → List Entry
+leave n es [] = without n es
+leave n es (u ∷ us) = without n es ++ record { name = n; tokens = u ∷ us } ∷ []
 
-abbrev pub taken : Bytes → List Entry → List Entry
-taken n es = rest n es (tokens_of n es)
+abbrev pub rest : (ℕ → ℕ) → Bytes → List Entry → List Bytes → List Entry
+rest p n es [] = es
+rest p n es (t ∷ ts) = leave n es (left p (t ∷ ts))
+
+abbrev pub handed_out : (ℕ → ℕ) → Bytes → List Entry → Option Bytes
+handed_out p n es = given p (tokens_of n es)
+
+abbrev pub taken : (ℕ → ℕ) → Bytes → List Entry → List Entry
+taken p n es = rest p n es (tokens_of n es)
 
 -- names apart, and under each name tokens that are apart, at least one
 abbrev pub apart : List Bytes → Bool
@@ -119,16 +127,16 @@ insert_answer n t = if long_entry n t then Err LongEntry else Ok tt
 abbrev pub inserted : Bytes → Bytes → Cache → Cache
 inserted n t c = if long_entry n t then c else record c { entries = stored c.names c.tokens n t c.entries }
 
--- a take: its answer, what it leaves, and the buffer
-abbrev pub take_answer : Bytes → List ℕ → Cache → Result (Option ℕ) Refusal
-take_answer n out c = if nat_lt (length out) MAX_STORED_LEN then Err SmallBuffer else if nat_lt MAX_NAME_LEN (length n) then Err LongEntry else Ok (option_map length (handed_out n c.entries))
+-- a take in the order p: its answer, what it leaves, and the buffer
+abbrev pub take_answer : (ℕ → ℕ) → Bytes → List ℕ → Cache → Result (Option ℕ) Refusal
+take_answer p n out c = if nat_lt (length out) MAX_STORED_LEN then Err SmallBuffer else if nat_lt MAX_NAME_LEN (length n) then Err LongEntry else Ok (option_map length (handed_out p n c.entries))
 
 abbrev pub put_in_front : Option Bytes → List ℕ → List ℕ
 put_in_front None out = out
 put_in_front (Some t) out = fronted t out
 
-abbrev pub taken_into : Bytes → List ℕ → Cache → List ℕ
-taken_into n out c = if nat_lt (length out) MAX_STORED_LEN || nat_lt MAX_NAME_LEN (length n) then out else put_in_front (handed_out n c.entries) out
+abbrev pub taken_into : (ℕ → ℕ) → Bytes → List ℕ → Cache → List ℕ
+taken_into p n out c = if nat_lt (length out) MAX_STORED_LEN || nat_lt MAX_NAME_LEN (length n) then out else put_in_front (handed_out p n c.entries) out
 
-abbrev pub taken_from : Bytes → List ℕ → Cache → Cache
-taken_from n out c = if nat_lt (length out) MAX_STORED_LEN || nat_lt MAX_NAME_LEN (length n) then c else record c { entries = taken n c.entries }
+abbrev pub taken_from : (ℕ → ℕ) → Bytes → List ℕ → Cache → Cache
+taken_from p n out c = if nat_lt (length out) MAX_STORED_LEN || nat_lt MAX_NAME_LEN (length n) then c else record c { entries = taken p n c.entries }

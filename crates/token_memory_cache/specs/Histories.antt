@@ -1,4 +1,4 @@
--- What is to hold of a cache over whole histories: which token a take hands out, which name is pushed out, and that
+-- What is to hold of a cache over whole histories, in each order of takes: which token a take hands out, which name is pushed out, and that
 -- nothing else is lost or added. A history is the calls from a new cache on, refused ones too, the newest first.
 use Rattle.std.specs.Prelude.{◌≡◌, ℕ, ◌<◌, Bool, true, false, ◌&&◌, ◌↔◌, List, [], ◌∷◌, length, take, is_ok, Some, None, Ok, Err, Option, Result, ◌≢◌, if◌then◌else◌}
 use Rattle.std.specs.Str.{bytes_eq}
@@ -17,23 +17,24 @@ pub record Event : Type 0 where
 abbrev pub History : Type 0
 History = List Event
 
--- one call, by what `insert` and `take` ensure
-abbrev pub Does : Cache → Call → Cache → Type 0
-Does c (insertion n t r) c' = (r ≡ insert_answer n t) × (c' ≡ inserted n t c)
-Does c (taking n out out' r) c' = (r ≡ take_answer n out c) × (out' ≡ taken_into n out c) × (c' ≡ taken_from n out c)
+-- one call in the order p, by what `insert` and `take` ensure
+abbrev pub Does : (ℕ → ℕ) → Cache → Call → Cache → Type 0
+Does p c (insertion n t r) c' = (r ≡ insert_answer n t) × (c' ≡ inserted n t c)
+Does p c (taking n out out' r) c' = (r ≡ take_answer p n out c) × (out' ≡ taken_into p n out c) × (c' ≡ taken_from p n out c)
 
-abbrev pub Step : Cache → Event → Cache → Type 0
-Step c x c' = Does c x.call c' × (x.left ≡ c')
+abbrev pub Step : (ℕ → ℕ) → Cache → Event → Cache → Type 0
+Step p c x c' = Does p c x.call c' × (x.left ≡ c')
 
 -- a new cache at two limits, over so many records
 abbrev pub fresh : ℕ → ℕ → ℕ → ℕ → Cache
 fresh names tokens name_records token_records =
     record { names = names; tokens = tokens; name_records = name_records; token_records = token_records; entries = [] }
 
--- P, at the limits of names and of tokens a name, of each call and the history before it, in every history of a cache
-abbrev pub Throughout : (ℕ → ℕ → Event → History → Type 0) → Cache → Type 0
-Throughout P c =
-    (names tokens name_records token_records : ℕ) (xs : History) → Succession Step (fresh names tokens name_records token_records) xs c → Each (P names tokens) xs
+-- P, at the limits of names and of tokens a name, of each call and the history before it, in every history of a cache with
+-- takes in the order p
+abbrev pub Throughout : (ℕ → ℕ) → (ℕ → ℕ → Event → History → Type 0) → Cache → Type 0
+Throughout p P c =
+    (names tokens name_records token_records : ℕ) (xs : History) → Succession (Step p) (fresh names tokens name_records token_records) xs c → Each (P names tokens) xs
 
 -- what is held after a history: the names that hold tokens, each once, and their tokens
 abbrev pub entries_after : History → List Entry
@@ -69,20 +70,28 @@ pub record CameFirst (n t : Bytes) (xs : History) : Type 0 where
   pub here : held xs n t ≡ true
   pub first : (u : Bytes) → held xs n u ≡ true → u ≢ t → came n t xs < came n u xs
 
+-- and the one that came last
+pub record CameLast (n t : Bytes) (xs : History) : Type 0 where
+  pub here : held xs n t ≡ true
+  pub last : (u : Bytes) → held xs n u ≡ true → u ≢ t → came n u xs < came n t xs
+
 -- of the names that tokens are held under, the one whose last use is longest ago
 pub record UnusedLongest (n : Bytes) (xs : History) : Type 0 where
   pub here : (t : Bytes) × (held xs n t ≡ true)
   pub first : (m t : Bytes) → held xs m t ≡ true → m ≢ n → last_use n xs < last_use m xs
 
--- oldest first: a take hands out the token that came first, and none only where none is held
-abbrev pub OldestFirst : Call → History → Type 0
-OldestFirst (insertion n t r) earlier = Unit {0}
-OldestFirst (taking n out out' (Err e)) earlier = Unit {0}
-OldestFirst (taking n out out' (Ok None)) earlier = (t : Bytes) → held earlier n t ≡ false
-OldestFirst (taking n out out' (Ok (Some k))) earlier = CameFirst n (take k out') earlier
+-- a take hands out a token that P says of the history before, and none only where none is held
+abbrev pub HandsOut : (Bytes → Bytes → History → Type 0) → Call → History → Type 0
+HandsOut P (insertion n t r) earlier = Unit {0}
+HandsOut P (taking n out out' (Err e)) earlier = Unit {0}
+HandsOut P (taking n out out' (Ok None)) earlier = (t : Bytes) → held earlier n t ≡ false
+HandsOut P (taking n out out' (Ok (Some k))) earlier = P n (take k out') earlier
 
 abbrev pub HandsOutTheOldest : ℕ → ℕ → Event → History → Type 0
-HandsOutTheOldest names tokens x earlier = OldestFirst x.call earlier
+HandsOutTheOldest names tokens x earlier = HandsOut CameFirst x.call earlier
+
+abbrev pub HandsOutTheNewest : ℕ → ℕ → Event → History → Type 0
+HandsOutTheNewest names tokens x earlier = HandsOut CameLast x.call earlier
 
 -- a name that holds no token, where as many names do as the limit allows
 pub record PastTheLimit (names : ℕ) (n : Bytes) (xs : History) : Type 0 where

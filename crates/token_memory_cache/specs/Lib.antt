@@ -1,3 +1,4 @@
+pub mod Orders
 pub mod Cache
 pub mod Texts
 pub mod Lent

@@ -80,9 +80,9 @@ pub record Sound (names tokens : ℕ) (s : Shelf) : Type 0 where
   pub name_records : names ≤ length s.names.records.now
   pub token_records : names * tokens ≤ length s.tokens.records.now
 
--- what a take of the name n does at these limits: r is its oldest token
-pub record Took (names tokens : ℕ) (n : Bytes) (s s' : Shelf) (r : Option Bytes) : Type 0 where
+-- what a take of the name n does in the order p at these limits: r is the token that it gives
+pub record Took (p : ℕ → ℕ) (names tokens : ℕ) (n : Bytes) (s s' : Shelf) (r : Option Bytes) : Type 0 where
   pub sound : Sound names tokens s'
-  pub answer : r ≡ handed_out n (entries s)
-  pub left : entries s' ≡ taken n (entries s)
+  pub answer : r ≡ handed_out p n (entries s)
+  pub left : entries s' ≡ taken p n (entries s)
   pub size : SameSize s s'

@@ -2,15 +2,16 @@ ghost use Rattle.std.specs.Prelude.{◌≡◌, ℕ, ◌<◌, ◌≤◌, ◌++◌
 ghost use Rattle.std.specs.List.{list_any};
 ghost use Rattle.record_pool.specs.Pools.{items};
 ghost use Rattle.record_pool.specs.Chains.{empty_chain};
-ghost use Rattle.token_memory_cache.specs.Cache.{sound, oldest, added, stored};
+ghost use Rattle.token_memory_cache.specs.Cache.{sound, given, left, added, stored};
 ghost use Rattle.std.specs.Str.{bytes_eq};
 ghost use Rattle.token_memory_cache.specs.Shelves.{listed, entries, Stands, TakenOff, Becomes, Opened, Room, Refilled, SameSize, Sound, Took};
 
+use crate::order::TakeOrder;
 use crate::text::Text;
 use record_pool::{Chain, Pool, Record};
 use token_store::{MAX_NAME_LEN, MAX_STORED_LEN};
 
-// A name, and the chain of its tokens, the oldest first.
+/// A name, and the chain of its tokens, the oldest first.
 #[derive(Clone, Copy)]
 pub struct NameEntry {
     name: Text<MAX_NAME_LEN>,
@@ -18,7 +19,7 @@ pub struct NameEntry {
 }
 
 impl NameEntry {
-    // An entry to lend memory with.
+    /// An entry to lend memory with: no name, and no tokens.
     pub fn new() -> NameEntry
         ensures { result ≡ record { name = []; tokens = empty_chain } }
     {
@@ -29,7 +30,7 @@ impl NameEntry {
     }
 }
 
-// The records that a cache is lent, for names and for tokens.
+/// The records that a cache is lent, for names and for tokens.
 pub type LentRecords<'a> = (
     &'a mut [Record<NameEntry>],
     &'a mut [Record<Text<MAX_STORED_LEN>>],
@@ -126,14 +127,15 @@ impl<'a> Shelf<'a> {
         self.take_off(k)
     }
 
-    // Takes the oldest token out of a chain.
-    fn pop(&mut self, tokens: &mut Chain) -> Text<MAX_STORED_LEN>
+    // Takes the token out of a chain that comes first in the order.
+    fn pop<O: TakeOrder>(&mut self, tokens: &mut Chain) -> Text<MAX_STORED_LEN>
         requires stands { Stands (tokens.old ∷ []) self.old }
         requires some { 0 < tokens.old.count }
-        ensures tokens { Refilled self.old self.new tokens.new (drop 1 (items self.old.tokens tokens.old)) }
-        ensures oldest { oldest (items self.old.tokens tokens.old) ≡ found result }
+        ensures tokens { Refilled self.old self.new tokens.new (left O.place (items self.old.tokens tokens.old)) }
+        ensures given { given O.place (items self.old.tokens tokens.old) ≡ found result }
     {
-        self.tokens.remove(tokens, 0).unwrap()
+        let place = O::place(tokens.len());
+        self.tokens.remove(tokens, place).unwrap()
     }
 
     // Adds a token to a chain: a duplicate is discarded, and at a limit the oldest is dropped.
@@ -180,16 +182,16 @@ impl<'a> Shelf<'a> {
         self.put_back(name, held);
     }
 
-    // Takes the oldest token of a name.
-    pub(crate) fn take(&mut self, name: &[u8]) -> Option<Text<MAX_STORED_LEN>>
+    // Takes the token of a name that comes first in the order.
+    pub(crate) fn take<O: TakeOrder>(&mut self, name: &[u8]) -> Option<Text<MAX_STORED_LEN>>
         requires stands { Stands [] self.old }
         requires apart { sound (entries self.old) ≡ true }
         requires short { length name.now ≤ 255 }
-        ensures { (names tokens : ℕ) → Sound names tokens self.old → Took names tokens name.now self.old self.new result }
+        ensures { (names tokens : ℕ) → Sound names tokens self.old → Took O.place names tokens name.now self.old self.new result }
     {
         let k = self.find(name)?;
         let mut chain = self.take_off(k);
-        let token = self.pop(&mut chain);
+        let token = self.pop::<O>(&mut chain);
         if !chain.is_empty() {
             self.put_back(name, chain);
         }

@@ -1,4 +1,4 @@
-use crate::{LentRecords, NameEntry, Text, TokenMemoryCache};
+use crate::{LentRecords, NameEntry, NewestFirstCache, Text, TokenMemoryCache};
 use answers::{Refusal, Refused};
 use record_pool::Record;
 use std::test::Fail;
@@ -28,7 +28,7 @@ fn tokens_in(records: &[Record<Text<MAX_STORED_LEN>>]) -> usize {
 }
 
 // Whether a take hands out this token, at the front of a buffer of which no other byte changes.
-fn takes(cache: &mut TokenMemoryCache<'_>, name: &str, token: &[u8]) -> bool {
+fn takes<T: TokenStore>(cache: &mut T, name: &str, token: &[u8]) -> bool {
     let mut out = [7; MAX_STORED_LEN];
     let Ok(Some(len)) = cache.take(name, &mut out) else {
         return false;
@@ -37,7 +37,7 @@ fn takes(cache: &mut TokenMemoryCache<'_>, name: &str, token: &[u8]) -> bool {
 }
 
 // Whether a take answers none, and changes no byte.
-fn takes_none(cache: &mut TokenMemoryCache<'_>, name: &str) -> bool {
+fn takes_none<T: TokenStore>(cache: &mut T, name: &str) -> bool {
     let mut out = [7; MAX_STORED_LEN];
     cache.take(name, &mut out) == Ok(None) && out.iter().all(|byte| *byte == 7)
 }
@@ -55,6 +55,23 @@ fn the_oldest_token_comes_first(rt: HostRuntime) -> Result<(), Fail> {
     assert!(rt; takes(&mut cache, "crane", b"one") && takes(&mut cache, "crane", b"two"));
     assert!(rt; takes_none(&mut cache, "dock"));
     assert!(rt; takes(&mut cache, "crane", b"six") && takes_none(&mut cache, "crane"));
+    Ok(())
+}
+
+#[test]
+fn the_newest_token_comes_first(rt: HostRuntime) -> Result<(), Fail> {
+    let mut names = [blank_name(); 2];
+    let mut tokens = [blank_token(); 6];
+    let Ok(mut cache) = NewestFirstCache::new(2, 3, &mut names, &mut tokens) else {
+        return Err("no cache".into());
+    };
+    for token in [b"one", b"two", b"six", b"two", b"ten"] {
+        cache.insert("crane", token)?;
+    }
+    assert!(rt; takes(&mut cache, "crane", b"ten") && takes(&mut cache, "crane", b"six"));
+    cache.insert("crane", b"elf")?;
+    assert!(rt; takes_none(&mut cache, "dock") && takes(&mut cache, "crane", b"elf"));
+    assert!(rt; takes(&mut cache, "crane", b"two") && takes_none(&mut cache, "crane"));
     Ok(())
 }
 

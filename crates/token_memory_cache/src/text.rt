@@ -3,7 +3,7 @@ ghost use Rattle.std.specs.Str.{bytes_eq};
 
 use std::marker::Model;
 
-// At most N bytes; the rest of the array is zero. A buffer with a length beside, as it is copied and takes no heap.
+/// At most N bytes; the rest of the array is zero. A buffer with a length beside, as it is copied and takes no heap.
 #[derive(Clone, Copy)]
 pub struct Text<const N: usize> {
     len: u16,
@@ -28,7 +28,7 @@ impl<const N: usize> Model for Text<N> {
 }
 
 impl<const N: usize> Text<N> {
-    // No bytes.
+    /// No bytes: a text to lend memory with.
     pub fn new() -> Text<N>
         ensures { result ≡ [] }
     {

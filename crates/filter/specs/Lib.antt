@@ -3,6 +3,8 @@ pub mod Filter
 pub mod Indexed
 pub mod Memory
 pub mod Turning
+pub mod Successions
+pub mod Orders
 pub mod Sets
 pub mod SetLaws
 pub mod TurningLaws

@@ -7,6 +7,7 @@ use Rattle.answers.specs.declared.FilterCause.{FilterCause}
 use Rattle.filter.specs.declared.exact.ExactSet.{ExactSet}
 use Rattle.filter.specs.Filter.{Meaning, Answer, Same, Recorded, Records, Emptied, exact, reply}
 use Rattle.filter.specs.Lists.{member}
+use Rattle.filter.specs.Orders.{Appends, Begins}
 use Rattle.filter.specs.Sets.{set_means, SetRecords, SetEmpties}
 
 or_swap : (a b c : Bool) → (a || (b || c)) ≡ (b || (a || c))
@@ -77,3 +78,18 @@ pub set_emptied : (s s' : ExactSet) → SetEmpties s s' → Emptied (set_means s
 set_emptied s s' w =
     let P : ℕ → Type 0 = λ c. Emptied (set_means s) (exact (vec_items s'.held) c) in
     subst P (sym w.capacity) (emptied_set (vec_items s.held) (vec_items s'.held) s.capacity s.some w.held)
+
+-- what always lists, and puts each accepted fingerprint behind the others
+pub appended : {S : Type 0} (m : S → Meaning) (l : S → List ℕ) (s s' : S) (f : ℕ) (r : Answer) → l s' ≡ cond (is_ok r) (l s ++ f ∷ []) (l s)
+    → Appends m (λ _. true) l s f r s'
+appended m l s s' f r h = record {
+  same = λ n. (refl, h ∙ cond-false _ _ _ n);
+  behind = λ y _. (refl, h ∙ cond-true _ _ _ y);
+  sure = λ _ _. refl;
+}
+
+pub set_appends : (s s' : ExactSet) (f : ℕ) (r : Answer) → SetRecords s f r s' → Appends set_means (λ _. true) (λ s. vec_items s.held) s f r s'
+set_appends s s' f r w = appended set_means (λ s. vec_items s.held) s s' f r w.held
+
+pub set_begins : (s s' : ExactSet) → SetEmpties s s' → Begins (λ _. true) (λ s. vec_items s.held) s'
+set_begins s s' w = record { on = refl; none = w.held }

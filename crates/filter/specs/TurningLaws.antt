@@ -1,13 +1,14 @@
 -- Lemmas on what a turning filter means before and after a call: what its `impl` owes the interface.
-use Rattle.std.proofs.Common.{◌≡◌, ℕ, ◌-◌, ◌<◌, true, false, List, [], ◌∷◌, ◌++◌, is_ok, Ok, sym, refl, ap, ◌∙◌, ⊎_elim, arith}
+use Rattle.std.proofs.Common.{◌≡◌, ℕ, ◌-◌, ◌<◌, Bool, true, false, List, [], ◌∷◌, ◌++◌, is_ok, Ok, sym, refl, ap, ◌∙◌, ⊎_elim, arith}
 use Rattle.std.proofs.lemmas.Bool.{false≢true, true≢false, eqb-true, eq-eqb, or_cases, or_left, or_right, cases_Bool, cases_lt, cond-true, cond-false}
 use Rattle.filter.specs.declared.turning.Form.{Form}
 use Rattle.filter.specs.declared.turning.Form.TheVariants.{Listing, Over}
 use Rattle.filter.specs.declared.turning.TurningFilter.{TurningFilter}
 use Rattle.filter.specs.Filter.{Meaning, Answer, Records, Emptied}
 use Rattle.filter.specs.Lists.{member}
-use Rattle.filter.specs.Turning.{Poured, in_form, turned, Turns, Returns}
+use Rattle.filter.specs.Turning.{Poured, in_form, turned, telling, listing, Turns, Returns}
 use Rattle.filter.specs.Turning.Turns.{over, goes, lists}
+use Rattle.filter.specs.Orders.{Appends, Begins}
 use Rattle.filter.specs.SetLaws.{member_push}
 
 -- one record, whatever was answered: the fingerprint is refused now, and none was freed
@@ -103,3 +104,29 @@ returns_mean m E n set t t' w =
     let e = set t.set t'.set w.set in
     let c = counted t.form (m t.set) (n t.other) in
     rw (w.form) (record { none = e.none; sures = ap (λ z. z - 1) e.sures ∙ sym c; counts = ap (λ z. z - 1) e.counts ∙ sym c })
+
+-- the order, by the set's
+module _ {S B : Type 0} (m : S → Meaning) (k : S → Bool) (l : S → List ℕ) (R : S → ℕ → Answer → S → Type 0) (n : B → Meaning) (Q : B → ℕ → Answer → B → Type 0) (E : B → B → Type 0)
+    (set : (s s' : S) (f : ℕ) (r : Answer) → R s f r s' → Appends m k l s f r s') where
+  pub turns_append : (t t' : TurningFilter S B) (f : ℕ) (r : Answer) → Turns m l R Q E t f r t' → Appends (turned m n) (listing k) (telling l) t f r t'
+  turns_append t t' f r (over p q e w) = record {
+    same = λ _. rw (p, q) (refl, refl);
+    behind = λ _ y. absurd (false≢true (rw q at y));
+    sure = λ _ h. absurd (let z : 0 < 0 = rw p at h in omega arith);
+  }
+  turns_append t t' f r (goes p one new q e ok b z w) = record {
+    same = λ h. absurd (true≢false (rw ok at h));
+    behind = λ _ y. absurd (false≢true (rw q at y));
+    sure = λ _ h. absurd (let z : 0 < (m t.set).sure - 1 = rw p at h in omega arith);
+  }
+  turns_append t t' f r (lists p o q e w) =
+      let a = set t.set t'.set f r w in
+      record {
+        same = λ h. rw (p, q) (a.same h);
+        behind = λ h y. let z : k t'.set ≡ true = rw q at y in rw (p, q) (a.behind h z);
+        sure = λ h y. let z : 0 < (m t.set).sure - 1 = rw p at y in rw q (a.sure h (omega arith));
+      }
+
+pub returns_begin : {S B : Type 0} (k : S → Bool) (l : S → List ℕ) (E : S → S → Type 0) → ((s s' : S) → E s s' → Begins k l s')
+    → (t t' : TurningFilter S B) → Returns E t t' → Begins (listing k) (telling l) t'
+returns_begin k l E set t t' w = let b = set t.set t'.set w.set in record { on = rw w.form b.on; none = rw w.form b.none }

@@ -5,9 +5,10 @@
 //! `Places::allocate`.
 #![tactic(auto)]
 
-ghost use Rattle.std.specs.Prelude.{◌≡◌, ℕ, ◌<◌, true, List, length};
+ghost use Rattle.std.specs.Prelude.{◌≡◌, ℕ, ◌<◌, Bool, true, false, List, [], length};
 ghost use Rattle.filter.specs.Filter.{Meaning, Answer, Records, Emptied};
 ghost use Rattle.filter.specs.Lists.{member, distinct, place};
+ghost use Rattle.filter.specs.Orders.{Appends, Begins};
 
 mod exact;
 mod laws;
@@ -17,8 +18,9 @@ mod turning;
 use answers::FilterCause;
 pub use exact::{ExactSet, HEADS_PER_PLACE, Places};
 pub use laws::{
-    sets_answer_by_what_they_recorded, the_limits_are_those_of_the_rules,
-    turning_filters_answer_by_what_they_recorded,
+    listing_filters_tell_in_order, sets_answer_by_what_they_recorded,
+    the_limits_are_those_of_the_rules, turning_filters_answer_by_what_they_recorded,
+    turning_filters_go_over_in_order,
 };
 pub use memory::filled;
 pub use turning::{Form, TurningFilter, equal_forms_are_the_same};
@@ -48,9 +50,28 @@ pub trait Filter {
     ghost emptied: { (s s' : Self) → empties s s' → Emptied (meaning s) (meaning s') };
 }
 
-/// A filter that also tells each fingerprint it holds, each once. While some are sure, just these are refused.
+/// A filter that also tells each fingerprint it holds, each once. While some are sure, just these are refused. Its own calls of
+/// recording and emptying keep the order: it tells in that of first recording since it was emptied. It may go over to another
+/// form at a fingerprint that was not sure, and tells none then, by these calls, until it is emptied.
 pub trait ListingFilter: Filter {
     ghost listed: { Self → List ℕ };
+
+    // whether it lists: not once it has gone over to another form, until it is emptied
+    ghost lists: { Self → Bool };
+
+    // its own full account of a recording in order, and of an emptying
+    ghost records_listed: { Self → ℕ → Answer → Self → Type 0 };
+
+    ghost empties_listed: { Self → Self → Type 0 };
+
+    /// Records as `record` does, and tells an accepted fingerprint behind the others, or none from then on. A refused one moves
+    /// nothing in the list.
+    fn record_listed(&mut self, f: u64) -> Result<(), FilterCause>
+        ensures { records_listed self.old f result self.new };
+
+    /// Empties as `empty` does, and the order begins anew.
+    fn empty_listed(&mut self)
+        ensures { empties_listed self.old self.new };
 
     /// How many further ones are sure.
     fn sure(&self) -> usize
@@ -70,6 +91,18 @@ pub trait ListingFilter: Filter {
     {
         (0..self.told()).any(|i| self.tell(i) == Some(f))
     }
+
+    // what `record` and `empty` do
+    ghost recorded_listed: { (s s' : Self) (f : ℕ) (r : Answer) → records_listed s f r s' → Self.Filter.records s f r s' };
+
+    ghost emptied_listed: { (s s' : Self) → empties_listed s s' → Self.Filter.empties s s' };
+
+    // and the order
+    ghost appends: { (s s' : Self) (f : ℕ) (r : Answer) → records_listed s f r s' → Appends Self.Filter.meaning lists listed s f r s' };
+
+    ghost begins: { (s s' : Self) → empties_listed s s' → Begins lists listed s' };
+
+    ghost gone: { (s : Self) → lists s ≡ false → listed s ≡ [] };
 
     ghost once: { (s : Self) → distinct (listed s) ≡ true };
 

@@ -1,7 +1,7 @@
 ghost use Rattle.answers.specs.Sameness.{TellsSameness, ClonesAreTheSame, ClonesNeverFail};
 ghost use Rattle.std.specs.Prelude.{◌≡◌, MatchOption};
-ghost use Rattle.filter.specs.Turning.{turned, telling, Poured, Turns, Returns};
-ghost use Rattle.filter.specs.TurningLaws.{turns_mean, returns_mean};
+ghost use Rattle.filter.specs.Turning.{turned, telling, listing, Poured, Turns, Returns};
+ghost use Rattle.filter.specs.TurningLaws.{turns_mean, returns_mean, turns_append, returns_begin};
 ghost use Rattle.std.proofs.Common.{rules};
 
 use crate::{Filter, ListingFilter};
@@ -43,9 +43,9 @@ impl<S: ListingFilter, B: Filter> TurningFilter<S, B> {
     /// A filter that lists, over a set, which is emptied, and the filter to go over to, which is left as it is: it is emptied as
     /// the turning filter goes over. A set of the sure count 1 or 0 leaves the sure count 0.
     pub fn new(mut set: S, other: B) -> TurningFilter<S, B>
-        ensures { Returns S.empties (record { set = set; other = other; form = Form.Listing }) result }
+        ensures { Returns S.empties_listed (record { set = set; other = other; form = Form.Listing }) result }
     {
-        set.empty();
+        set.empty_listed();
         TurningFilter {
             set,
             other,
@@ -75,13 +75,13 @@ impl<S: ListingFilter, B: Filter> TurningFilter<S, B> {
 impl<S: ListingFilter, B: Filter> Filter for TurningFilter<S, B> {
     ghost meaning = { turned S.meaning B.meaning };
 
-    ghost records = { Turns S.meaning S.listed S.records B.records B.empties };
+    ghost records = { Turns S.meaning S.listed S.records_listed B.records B.empties };
 
-    ghost empties = { Returns S.empties };
+    ghost empties = { Returns S.empties_listed };
 
-    ghost recorded = { turns_mean S.meaning S.listed S.records B.meaning B.records B.empties S.recorded B.recorded S.just };
+    ghost recorded = { turns_mean S.meaning S.listed S.records_listed B.meaning B.records B.empties (λ s s' f r w. S.recorded s s' f r (S.recorded_listed s s' f r w)) B.recorded S.just };
 
-    ghost emptied = { returns_mean S.meaning S.empties B.meaning S.emptied };
+    ghost emptied = { returns_mean S.meaning S.empties_listed B.meaning (λ s s' w. S.emptied s s' (S.emptied_listed s s' w)) };
 
     fn record(&mut self, f: u64) -> Result<(), FilterCause> {
         match (self.form, self.set.sure()) {
@@ -93,12 +93,12 @@ impl<S: ListingFilter, B: Filter> Filter for TurningFilter<S, B> {
                 self.form = Form::Over;
                 Ok(())
             }
-            (Form::Listing, _) => self.set.record(f),
+            (Form::Listing, _) => self.set.record_listed(f),
         }
     }
 
     fn empty(&mut self) {
-        self.set.empty();
+        self.set.empty_listed();
         self.form = Form::Listing;
     }
 }
@@ -106,9 +106,33 @@ impl<S: ListingFilter, B: Filter> Filter for TurningFilter<S, B> {
 impl<S: ListingFilter, B: Filter> ListingFilter for TurningFilter<S, B> {
     ghost listed = { telling S.listed };
 
+    ghost lists = { listing S.lists };
+
+    ghost records_listed = { Turns S.meaning S.listed S.records_listed B.records B.empties };
+
+    ghost empties_listed = { Returns S.empties_listed };
+
+    ghost recorded_listed = { λ t t' f r w. w };
+
+    ghost emptied_listed = { λ t t' w. w };
+
+    ghost appends = { turns_append S.meaning S.lists S.listed S.records_listed B.meaning B.records B.empties S.appends };
+
+    ghost begins = { returns_begin S.lists S.listed S.empties_listed S.begins };
+
+    ghost gone = { Prim.search rules };
+
     ghost once = { Prim.search rules };
 
     ghost just = { Prim.search rules };
+
+    fn record_listed(&mut self, f: u64) -> Result<(), FilterCause> {
+        self.record(f)
+    }
+
+    fn empty_listed(&mut self) {
+        self.empty();
+    }
 
     fn sure(&self) -> usize {
         self.listing().map_or(0, |s| s.sure().saturating_sub(1))

@@ -1,9 +1,10 @@
 -- What a filter that is a plain list means before and after a call.
-use Rattle.std.proofs.Common.{◌≡◌, ℕ, ◌<◌, ◌≤◌, nat_eq, List, [], ◌∷◌, ◌++◌, length, Ok, Err, vec_items, vec_capacity, sym, refl, arith}
+use Rattle.std.proofs.Common.{◌≡◌, ℕ, ◌<◌, ◌≤◌, true, nat_eq, List, [], ◌∷◌, ◌++◌, length, Ok, Err, vec_items, vec_capacity, sym, refl, arith}
 use Rattle.std.proofs.lemmas.Bool.{false≢true, or_parts, eqb-false}
 use Rattle.filter.specs.Filter.{Answer, Same, Recorded, Records, Emptied, reply, exact}
 use Rattle.filter.specs.Lists.{member}
-use Rattle.filter.specs.SetLaws.{same, accepts, recorded_push, emptied_set}
+use Rattle.filter.specs.Orders.{Appends, Begins}
+use Rattle.filter.specs.SetLaws.{same, accepts, recorded_push, emptied_set, appended}
 use Rattle.own_parts.specs.declared.few.Few.{Few}
 use Rattle.own_parts.specs.Few.{few_means, FewRecords, FewEmpties}
 
@@ -36,3 +37,9 @@ emptied xs ys c c' some held places = rw places (emptied_set xs ys c some held)
 
 pub few_emptied : (s s' : Few) → FewEmpties s s' → Emptied (few_means s) (few_means s')
 few_emptied s s' w = emptied (vec_items s.held) (vec_items s'.held) (vec_capacity s.held) (vec_capacity s'.held) s.some w.held w.places
+
+pub few_appends : (s s' : Few) (f : ℕ) (r : Answer) → FewRecords s f r s' → Appends few_means (λ _. true) (λ s. vec_items s.held) s f r s'
+few_appends s s' f r w = appended few_means (λ s. vec_items s.held) s s' f r w.held
+
+pub few_begins : (s s' : Few) → FewEmpties s s' → Begins (λ _. true) (λ s. vec_items s.held) s'
+few_begins s s' w = record { on = refl; none = w.held }

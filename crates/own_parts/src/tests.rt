@@ -1,9 +1,11 @@
 use super::*;
 use answers::{FilterCause, LogCause, Refusal};
-use filter::{Filter, ListingFilter, TurningFilter};
+use filter::{ExactSet, Filter, ListingFilter, Places, TurningFilter};
 use gate::Gate;
 use sealing::{BenchScheme, MAX_TOKEN_LEN, Nonce, WORKING_LEN};
 use std::alloc::Global;
+use std::process::Abort;
+use std::string::String;
 use std::test::Fail;
 use token_log::{Lifetime, TokenLog, TwoGenerationLog};
 use token_store::TokenStore;
@@ -121,5 +123,67 @@ fn lists_in_a_log(rt: HostRuntime) -> Result<(), Fail> {
         log.check_and_insert(4, 1000, lifetime),
         Err(LogCause::Full)
     );
+    Ok(())
+}
+
+fn set(heap: Global, capacity: u32) -> Result<ExactSet, Fail> {
+    ExactSet::new(capacity, Places::allocate(heap, capacity)?).map_err(|_| Fail::new("a set"))
+}
+
+// What a filter tells, one after the other, as service prints it.
+fn listing<S: ListingFilter>(heap: Global, filter: &S) -> Result<String, Fail> {
+    let mut print = String::new(heap);
+    for i in 0..filter.told() {
+        if let Some(f) = filter.tell(i) {
+            let entry = format!(in heap; "{i}: {f}; ")?;
+            print.push_str(&entry)?;
+        }
+    }
+    Ok(print)
+}
+
+// Any filter of three places or more that lists and has told nothing yet is printed in the order of first recording.
+fn is_printed_in_order<S: ListingFilter>(
+    rt: &impl Abort,
+    heap: Global,
+    filter: &mut S,
+) -> Result<(), Fail> {
+    for f in [9, 3, 7] {
+        assert_eq!(rt; filter.record_listed(f), Ok(()));
+    }
+    assert_eq!(rt; filter.record_listed(3), Err(FilterCause::Held));
+    let before = listing(heap, filter)?;
+    assert_eq!(rt; before.as_str(), "0: 9; 1: 3; 2: 7; ");
+    filter.empty_listed();
+    let emptied = listing(heap, filter)?;
+    assert_eq!(rt; emptied.as_str(), "");
+    for f in [7, 8, 9] {
+        assert_eq!(rt; filter.record_listed(f), Ok(()));
+    }
+    let after = listing(heap, filter)?;
+    assert_eq!(rt; after.as_str(), "0: 7; 1: 8; 2: 9; ");
+    Ok(())
+}
+
+#[test]
+fn listings_are_printed(rt: HostRuntime) -> Result<(), Fail> {
+    is_printed_in_order(&rt, rt.alloc(), &mut set(rt.alloc(), 3)?)?;
+    is_printed_in_order(&rt, rt.alloc(), &mut few(rt.alloc(), 3)?)?;
+    let mut over = TurningFilter::new(set(rt.alloc(), 4)?, few(rt.alloc(), 9)?);
+    is_printed_in_order(&rt, rt.alloc(), &mut over)
+}
+
+// Gone over it tells none, and the other filter, here a set, has recorded all in that order.
+#[test]
+fn gone_over_in_order(rt: HostRuntime) -> Result<(), Fail> {
+    let mut filter = TurningFilter::new(few(rt.alloc(), 4)?, set(rt.alloc(), 9)?);
+    for f in [7, 1, 9, 5, 4] {
+        assert_eq!(rt; filter.record_listed(f), Ok(()));
+    }
+    let over = listing(rt.alloc(), &filter)?;
+    assert_eq!(rt; over.as_str(), "");
+    let (_, other) = filter.into_parts();
+    let poured = listing(rt.alloc(), &other)?;
+    assert_eq!(rt; poured.as_str(), "0: 7; 1: 1; 2: 9; 3: 5; 4: 4; ");
     Ok(())
 }

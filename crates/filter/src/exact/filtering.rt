@@ -1,5 +1,6 @@
+ghost use Rattle.std.specs.Prelude.{true};
 ghost use Rattle.filter.specs.Sets.{set_means, SetRecords, SetEmpties};
-ghost use Rattle.filter.specs.SetLaws.{set_recorded, set_emptied};
+ghost use Rattle.filter.specs.SetLaws.{set_recorded, set_emptied, set_appends, set_begins};
 ghost use Rattle.std.proofs.Common.{rules};
 
 use super::ExactSet;
@@ -43,9 +44,33 @@ impl Filter for ExactSet {
 impl ListingFilter for ExactSet {
     ghost listed = { λ s. s.held.items };
 
+    ghost lists = { λ _. true };
+
+    ghost records_listed = { SetRecords };
+
+    ghost empties_listed = { SetEmpties };
+
+    ghost recorded_listed = { λ s s' f r w. w };
+
+    ghost emptied_listed = { λ s s' w. w };
+
+    ghost appends = { set_appends };
+
+    ghost begins = { set_begins };
+
+    ghost gone = { Prim.search rules };
+
     ghost once = { Prim.search rules };
 
     ghost just = { Prim.search rules };
+
+    fn record_listed(&mut self, f: u64) -> Result<(), FilterCause> {
+        self.record(f)
+    }
+
+    fn empty_listed(&mut self) {
+        self.empty();
+    }
 
     fn sure(&self) -> usize {
         self.capacity as usize - self.held.len()

@@ -1,5 +1,6 @@
+ghost use Rattle.std.specs.Prelude.{true};
 ghost use Rattle.own_parts.specs.Few.{few_means, FewRecords, FewEmpties};
-ghost use Rattle.own_parts.specs.FewLaws.{few_recorded, few_emptied};
+ghost use Rattle.own_parts.specs.FewLaws.{few_recorded, few_emptied, few_appends, few_begins};
 ghost use Rattle.std.proofs.Common.{rules};
 
 use super::Few;
@@ -36,9 +37,33 @@ impl Filter for Few {
 impl ListingFilter for Few {
     ghost listed = { λ s. s.held.items };
 
+    ghost lists = { λ _. true };
+
+    ghost records_listed = { FewRecords };
+
+    ghost empties_listed = { FewEmpties };
+
+    ghost recorded_listed = { λ s s' f r w. w };
+
+    ghost emptied_listed = { λ s s' w. w };
+
+    ghost appends = { few_appends };
+
+    ghost begins = { few_begins };
+
+    ghost gone = { Prim.search rules };
+
     ghost once = { Prim.search rules };
 
     ghost just = { Prim.search rules };
+
+    fn record_listed(&mut self, f: u64) -> Result<(), FilterCause> {
+        self.record(f)
+    }
+
+    fn empty_listed(&mut self) {
+        self.empty();
+    }
 
     fn sure(&self) -> usize {
         self.held.capacity() - self.held.len()

@@ -1,0 +1,10 @@
+use Rattle.filter.proofs.TurningOrder.{goes_over_in_order}
+use Rattle.filter.proofs.laws.turning_filters_go_over_in_order.Goals as goal
+
+pub returns : goal.returns
+returns g c =
+    goes_over_in_order g.S.Filter.meaning g.S.ListingFilter.lists g.S.ListingFilter.listed g.S.ListingFilter.records_listed g.S.ListingFilter.empties_listed
+    g.B.Filter.records g.B.Filter.empties
+    (λ s s' f r w. g.met.S.Filter.recorded s s' f r (g.met.S.ListingFilter.recorded_listed s s' f r w))
+    (λ s s' w. g.met.S.Filter.emptied s s' (g.met.S.ListingFilter.emptied_listed s s' w))
+    g.met.S.ListingFilter.appends g.met.S.ListingFilter.begins

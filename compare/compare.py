@@ -81,9 +81,7 @@ class Count:
 class RustScript(link_compare.Script):
     """A random script of what the Rust has too: its logs, and lines that are calls."""
 
-    def __init__(self, seed, calls):
-        super().__init__(seed, calls)
-        self.weights = self.weights[:-1] + [0]
+    WEIGHTS = [30, 40, 15, 8, 10, 0, 1, 0], [5, 5, 2, 2, 80, 0, 1, 0]
 
     def log(self):
         k = self.pick(1, 3, 64)

@@ -32,6 +32,8 @@ NO_CALLS = [
     "issue +1 2 1.2.3.4 5", "issue 1 2 +1.2.3.4 5", "issue 1 2 001.2.3.4 5", "issue 1 2 1.2.3.4.5 5", "issue 1 2 0.0.0.00 5",
     "issue 1 2 " + "AB" * 16 + " 5", "arrive - - 1.2.3.4 +1 0", "arrive - - 1.2.3.4 080 0", "k 00 1", "k +0 1", "k -0 1", "k \u0661 1",
     "take a room 0600", "accept ", " accept", "accept\t", "accept\0", "accept\r", "\r", "Accept", "\ufeffaccept", "take \u00e9",
+    "open", "open 4", "open x", "open 0 0", "open 00", "validate 4", "receive 0", "receive 4 1", "receive 0 -1", "receive 0 18446744073709551616",
+    "grant 0 0", "grant 0 8 1", "grant 4 0 1", "grant 0 0 4294967296", "spend 0", "spend 0 8 1", "spend 0 0 +1", "close -", "close 1 ",
     "accept\x0baccept", "accept\x85", "accept\u2028accept", "k 1 " + "9" * 5000, " " * 5000, "",
 ]
 NO_TEXTS = [
@@ -44,13 +46,16 @@ LONG_LINES = [(b"#", 0), (b"#", 9), (b"foo ", 0), (b"foo ", 1), (b"foo ", 2), (b
 class Script:
     """Lines that depend on the answers so far: `answer` is the newest one, `tokens` are those that were written."""
 
+    KINDS = ["issue", "arrive", "retry", "end", "store", "path", "k", "none"]
+    WEIGHTS = [30, 40, 15, 8, 10, 2, 1, 4], [5, 5, 2, 2, 80, 2, 1, 4], [5, 8, 1, 8, 1, 80, 1, 2]
+
     def __init__(self, seed, calls):
         self.random, self.calls = random.Random(seed), calls
         self.lines, self.answer, self.tokens = [], None, []
         self.retry = self.pick(0, SECOND, 15 * SECOND, LONGEST_LIFETIME, LONGEST_LIFETIME + self.pick(0, 0, 1))
         self.validation = self.pick(0, 1, SECOND - 1, SECOND, 10 * SECOND, 14 * DAY, LONGEST_LIFETIME)
         self.now = self.pick(0, 1000 * SECOND, 1_700_000_000 * SECOND, LAST_CLOCK - 100 * SECOND)
-        self.weights = self.pick([30, 40, 15, 8, 10, 1, 4], [5, 5, 2, 2, 80, 1, 4])
+        self.weights = self.pick(*self.WEIGHTS)
         self.names_used = self.pick(1, 3, len(NAMES))
         self.ends = self.pick([b"\n"], [b"\r\n"], [b"\n", b"\r\n"])
 
@@ -107,7 +112,7 @@ class Script:
         return f" {word} {self.pick(*lengths)}" if self.chance(0.1) else ""
 
     def call(self):
-        kind = self.random.choices(["issue", "arrive", "retry", "end", "store", "k", "none"], self.weights)[0]
+        kind = self.random.choices(self.KINDS, self.weights)[0]
         if kind == "issue":
             rooms = self.room("room", 80, 81, 100) + self.room("working", 95, 96, 200)
             return f"issue {self.number()} {self.number()} {self.pick(*IPS)} {self.clock()}{rooms}"
@@ -121,6 +126,8 @@ class Script:
             return self.pick("accept", "refuse", "ignore")
         if kind == "store":
             return self.store_call()
+        if kind == "path":
+            return self.path_call()
         return self.pick("k 1000 10", "k 0 0", "k 4294967295 1") if kind == "k" else self.no_call()
 
     def no_call(self):
@@ -143,6 +150,15 @@ class Script:
     def odd_stores(self):
         if self.chance(0.1):
             yield "store " + self.pick(*ODD_STORES)
+
+    def path_call(self):
+        kind = self.random.choices(["open", "validate", "receive", "grant", "spend", "close"], [12, 1, 15, 40, 40, 6])[0]
+        path, grant = self.random.randrange(4), self.random.randrange(8)
+        if kind == "receive":
+            return f"receive {path} {self.pick(0, 1, 1, 2, 3, 400, 1200, 21_845, 2**40 - 1, 2**40, 2**64 - 1)}"
+        if kind in ("grant", "spend"):
+            return f"{kind} {path} {grant} {self.pick(0, 1, 2, 3, 3, 4, 6, 9, 1200, 1201, 3600, 65_535, 65_536, 2**32 - 1)}"
+        return f"{kind} {path}"
 
     def store(self):
         if self.chance(0.2):

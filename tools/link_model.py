@@ -16,11 +16,16 @@ LAST_CLOCK = 4_294_967_295_999_999_999
 LONGEST_LIFETIME = 1_073_741_824 * SECOND
 MOST = 4096
 MOST_PLACES = 1_048_576
+LENT_PATHS, PATHS, GRANTS = 3, 4, 8
 LONGEST_LINE = 4_194_304
 
 
 class Refused(Exception):
     """A call that is refused, with its number."""
+
+
+class Unmade(Exception):
+    """A call that is not made, with what is missing for it."""
 
 
 class Bad(Exception):
@@ -341,6 +346,71 @@ class Newest(Cache):
     given = -1
 
 
+# ---- paths
+class Path:
+    def __init__(self, validated):
+        self.validated, self.counted, self.sent, self.owed = validated, 0, 0, []
+
+    def receive(self, count):
+        if not self.validated:
+            self.counted = min(self.counted + count, 1 << 40)
+
+    def grant(self, count):
+        over = self.sent + sum(self.owed) + count > 3 * self.counted and not self.validated
+        if count > 65_535 or len(self.owed) == 1000 or over:
+            raise Refused(41)
+        self.owed.append(count)
+
+    def spend(self, count, sent):
+        if sent > count:
+            raise Refused(41)
+        self.owed.remove(count)
+        self.sent += sent
+
+
+class Desk:
+    """The paths and grants of a script, by its own numbers; a grant is its path and its bytes."""
+
+    def __init__(self):
+        self.paths, self.grants = {}, {}
+
+    def at(self, number):
+        if number not in self.paths:
+            raise Unmade("no path")
+        return self.paths[number]
+
+    def open(self, number, accepted):
+        if number in self.paths:
+            raise Bad("taken")
+        if accepted is None:
+            raise Unmade("no accept")
+        if len(self.paths) == LENT_PATHS:
+            raise Refused(42)
+        self.paths[number] = Path(accepted)
+
+    def grant(self, number, name, count):
+        if name in self.grants:
+            raise Bad("taken")
+        path = self.at(number)
+        path.grant(count)
+        self.grants[name] = path, count
+
+    def spend(self, number, name, sent):
+        path = self.at(number)
+        if name not in self.grants:
+            raise Unmade("no grant")
+        owner, count = self.grants[name]
+        if owner is not path:
+            raise Refused(42)
+        path.spend(count, sent)
+        del self.grants[name]
+
+    def close(self, number):
+        if self.at(number).owed:
+            raise Refused(43)
+        del self.paths[number]
+
+
 # ---- scripts
 def shown(data):
     return data.hex() or "-"
@@ -368,6 +438,18 @@ class Words:
 
     def number(self, bits, what="not a number"):
         return plain(self.next(), bits, what)
+
+    def below(self, end, what):
+        number = self.number(64, what)
+        if number >= end:
+            raise Bad(what)
+        return number
+
+    def path(self):
+        return self.below(PATHS, "not a path")
+
+    def grant(self):
+        return self.below(GRANTS, "not a grant")
 
     def unhex(self, word, what="not in hex"):
         if len(word) % 2 or not all(c in "0123456789abcdef" for c in word):
@@ -466,13 +548,46 @@ def read_store(w):
 
 class Session:
     def __init__(self, gate, store):
-        self.gate, self.store, self.slip = gate, store, None
+        self.gate, self.store, self.slip, self.desk, self.accepted = gate, store, None, Desk(), None
 
-    def spend(self, word):
+    def end(self, word):
+        """Spends the slip."""
         if self.slip is None:
             return "no slip"
+        if word == "accepted":
+            self.accepted = self.validated
         self.slip = None
         return word
+
+    def path_call(self, command, w):
+        if command == "open":
+            path = w.path()
+            w.end()
+            self.desk.open(path, self.accepted)
+            self.accepted = None
+            return "opened"
+        if command == "validate":
+            path = w.path()
+            w.end()
+            self.desk.at(path).validated = True
+            return "validated"
+        if command == "receive":
+            path, count = w.path(), w.number(64)
+            w.end()
+            self.desk.at(path).receive(count)
+            return "received"
+        if command == "close":
+            path = w.path()
+            w.end()
+            self.desk.close(path)
+            return "closed"
+        args = [w.path(), w.grant(), w.number(32)]
+        w.end()
+        if command == "grant":
+            self.desk.grant(*args)
+            return "granted"
+        self.desk.spend(*args)
+        return "spent"
 
     def run(self, w):
         command = w.next()
@@ -485,6 +600,7 @@ class Session:
             w.end()
             self.slip = None
             line, self.slip = self.gate.arrive(*args)
+            self.validated = line.startswith("validated ")
             return line
         if command == "retry":
             args = [w.number(64), w.number(64), w.number(64), w.length("room", 81), w.length("working", 96)]
@@ -508,11 +624,13 @@ class Session:
             args = [w.number(32), w.number(32)]
             w.end()
             return f"k {hash_count(*args)}"
+        if command in ("open", "validate", "receive", "grant", "spend", "close"):
+            return self.path_call(command, w)
         ends = {"accept": "accepted", "refuse": "refused slip", "ignore": "ignored"}
         if command not in ends:
             raise Bad("no such command")
         w.end()
-        return self.spend(ends[command])
+        return self.end(ends[command])
 
 
 def text_of(line):
@@ -541,6 +659,8 @@ def answers(lines):
                     session = Session(made[2], made[3])
             else:
                 yield session.run(words)
+        except Unmade as unmade:
+            yield str(unmade)
         except Bad as bad:
             yield f"error {number} {bad}"
         except Refused as refused:

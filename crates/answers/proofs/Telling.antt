@@ -22,7 +22,8 @@ find (entry k x rest) n = cond (nat_eq k n) (Some x) (find rest n)
 abbrev refusals : Listed Refusal
 refusals =
     entry 1 refusal.SmallBuffer (entry 2 refusal.LongConnectionId (entry 3 refusal.LateClock (entry 4 refusal.LongLifetime
-    (entry 5 refusal.HashCount (entry 6 refusal.LongEntry (entry 7 refusal.Capacity (entry 8 refusal.AlreadyRetried none)))))))
+    (entry 5 refusal.HashCount (entry 6 refusal.LongEntry (entry 7 refusal.Capacity (entry 8 refusal.AlreadyRetried
+    (entry 41 refusal.BeyondAllowance (entry 42 refusal.NoPath (entry 43 refusal.GrantsOpen none))))))))))
 
 abbrev causes : Listed Cause
 causes =
@@ -45,6 +46,9 @@ refusal_found refusal.HashCount = refl
 refusal_found refusal.LongEntry = refl
 refusal_found refusal.Capacity = refl
 refusal_found refusal.AlreadyRetried = refl
+refusal_found refusal.BeyondAllowance = refl
+refusal_found refusal.NoPath = refl
+refusal_found refusal.GrantsOpen = refl
 
 log_cause_found : (a : LogCause) → find log_causes (log_cause_number a) ≡ Some a
 log_cause_found log_cause.ZeroLifetime = refl

@@ -18,6 +18,9 @@ refusal_number refusal.HashCount = 5
 refusal_number refusal.LongEntry = 6
 refusal_number refusal.Capacity = 7
 refusal_number refusal.AlreadyRetried = 8
+refusal_number refusal.BeyondAllowance = 41
+refusal_number refusal.NoPath = 42
+refusal_number refusal.GrantsOpen = 43
 
 abbrev pub cause_number : Cause → ℕ
 cause_number cause.ZeroLifetime = 11

@@ -34,6 +34,15 @@ pub enum Refusal {
     /// A retry for an arrival that a retry token has validated.
     #[error("refused 8: a retry for an arrival that a retry token has validated")]
     AlreadyRetried = 8,
+    /// A grant past what a path may be sent, of too many bytes, or one too many; or more sent than granted.
+    #[error("refused 41: a grant beyond what the path is allowed, or more sent than granted")]
+    BeyondAllowance = 41,
+    /// No path record is free, or no path is open that fits the path or the grant.
+    #[error("refused 42: no path record is free, or no open path that the call fits")]
+    NoPath = 42,
+    /// A path with open grants is to be closed.
+    #[error("refused 43: the path has open grants")]
+    GrantsOpen = 43,
 }
 
 /// Why a filter does not record a fingerprint.
@@ -247,7 +256,7 @@ pub fn cloned_answers_are_the_same()
 {}
 
 // The refusals in the order of their numbers, each cast.
-const CASTS: [u8; 8] = [
+const CASTS: [u8; 11] = [
     Refusal::SmallBuffer as u8,
     Refusal::LongConnectionId as u8,
     Refusal::LateClock as u8,
@@ -256,11 +265,14 @@ const CASTS: [u8; 8] = [
     Refusal::LongEntry as u8,
     Refusal::Capacity as u8,
     Refusal::AlreadyRetried as u8,
+    Refusal::BeyondAllowance as u8,
+    Refusal::NoPath as u8,
+    Refusal::GrantsOpen as u8,
 ];
 
 /// A refusal that is cast to a number is its number.
 pub fn casts_are_numbers()
-    ensures { CASTS ≡ 1 ∷ 2 ∷ 3 ∷ 4 ∷ 5 ∷ 6 ∷ 7 ∷ 8 ∷ [] }
+    ensures { CASTS ≡ 1 ∷ 2 ∷ 3 ∷ 4 ∷ 5 ∷ 6 ∷ 7 ∷ 8 ∷ 41 ∷ 42 ∷ 43 ∷ [] }
 {}
 
 /// A number tells the refusal or the cause it stands for, and no number stands for one of each.

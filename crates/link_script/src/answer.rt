@@ -1,4 +1,5 @@
 // What a call answers, as a line shows it.
+use crate::words::Bad;
 use answers::Refusal;
 use gate::Verdict;
 use hex_text::Hex;
@@ -19,6 +20,11 @@ impl fmt::Display for Bytes<'_> {
 
 pub(crate) fn print_refusal(rt: &impl Print, refusal: Refusal) -> io::Result<()> {
     println!(rt; "refused {}", refusal.number())
+}
+
+// Says what is wrong with a line, by its number; the run goes on.
+pub(crate) fn print_error(rt: &impl Print, number: u64, bad: Bad) -> io::Result<()> {
+    println!(rt; "error {number} {bad}")
 }
 
 pub(crate) fn print_verdict(rt: &impl Print, verdict: &Verdict) -> io::Result<()> {

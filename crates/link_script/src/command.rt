@@ -1,4 +1,5 @@
 // The calls that a script makes.
+use crate::desk::{GRANTS, PATHS};
 use crate::words::{Bad, Words};
 use sealing::{MAX_TOKEN_LEN, WORKING_LEN};
 use token_store::MAX_STORED_LEN;
@@ -52,6 +53,34 @@ pub(crate) struct Take<'a> {
     pub(crate) room: usize,
 }
 
+// What is asked of a path and its grants, by the script's own numbers.
+#[derive(Clone, Copy)]
+pub(crate) enum PathCall {
+    Open {
+        path: usize,
+    },
+    Validate {
+        path: usize,
+    },
+    Receive {
+        path: usize,
+        bytes: u64,
+    },
+    Grant {
+        path: usize,
+        grant: usize,
+        bytes: u32,
+    },
+    Spend {
+        path: usize,
+        grant: usize,
+        sent: u32,
+    },
+    Close {
+        path: usize,
+    },
+}
+
 #[derive(Drop)]
 pub(crate) enum Command<'a> {
     Issue(Issue),
@@ -60,6 +89,7 @@ pub(crate) enum Command<'a> {
     Spend(End),
     Insert(Insert<'a>),
     Take(Take<'a>),
+    Path(PathCall),
     HashCount { budget: u32, hits: u32 },
 }
 
@@ -115,6 +145,57 @@ fn read_take<'a>(words: &mut Words<'a>) -> Result<Take<'a>, Bad> {
     Ok(Take { name, room })
 }
 
+fn read_path(words: &mut Words<'_>) -> Result<usize, Bad> {
+    words.below(PATHS, "not a path")
+}
+
+fn read_grant_number(words: &mut Words<'_>) -> Result<usize, Bad> {
+    words.below(GRANTS, "not a grant")
+}
+
+fn read_receive(words: &mut Words<'_>) -> Result<PathCall, Bad> {
+    Ok(PathCall::Receive {
+        path: read_path(words)?,
+        bytes: words.number()?,
+    })
+}
+
+fn read_grant(words: &mut Words<'_>) -> Result<PathCall, Bad> {
+    Ok(PathCall::Grant {
+        path: read_path(words)?,
+        grant: read_grant_number(words)?,
+        bytes: words.number()?,
+    })
+}
+
+fn read_spend(words: &mut Words<'_>) -> Result<PathCall, Bad> {
+    Ok(PathCall::Spend {
+        path: read_path(words)?,
+        grant: read_grant_number(words)?,
+        sent: words.number()?,
+    })
+}
+
+// What is asked of a path; none where the first word is no such call.
+fn read_path_call(word: &str, words: &mut Words<'_>) -> Result<Option<PathCall>, Bad> {
+    let call = match word {
+        "open" => PathCall::Open {
+            path: read_path(words)?,
+        },
+        "validate" => PathCall::Validate {
+            path: read_path(words)?,
+        },
+        "receive" => read_receive(words)?,
+        "grant" => read_grant(words)?,
+        "spend" => read_spend(words)?,
+        "close" => PathCall::Close {
+            path: read_path(words)?,
+        },
+        _ => return Ok(None),
+    };
+    Ok(Some(call))
+}
+
 fn read_hash_count<'a>(words: &mut Words<'a>) -> Result<Command<'a>, Bad> {
     let budget = words.number()?;
     let hits = words.number()?;
@@ -133,7 +214,10 @@ pub(crate) fn read_call<'a>(mut words: Words<'a>) -> Result<Command<'a>, Bad> {
         "insert" => Command::Insert(read_insert(&mut words)?),
         "take" => Command::Take(read_take(&mut words)?),
         "k" => read_hash_count(&mut words)?,
-        _ => return Err(Bad::Line("no such command")),
+        word => match read_path_call(word, &mut words)? {
+            Some(call) => Command::Path(call),
+            None => return Err(Bad::Line("no such command")),
+        },
     };
     words.end()?;
     Ok(command)

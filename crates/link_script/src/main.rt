@@ -2,6 +2,7 @@
 // Runs a script of calls from standard input, and answers each line before it waits for the next.
 mod answer;
 mod command;
+mod desk;
 mod head;
 mod lines;
 mod script;

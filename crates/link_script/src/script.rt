@@ -1,4 +1,5 @@
 // Goes through the lines of a script.
+use crate::answer::print_error;
 use crate::command::read_call;
 use crate::head::{Head, read_head};
 use crate::lines::{LINE_MEMORY, as_text, read_line, says_something};
@@ -20,11 +21,6 @@ pub(crate) struct Script<R> {
     input: R,
     line: Vec<u8>,
     numbers: Range<u64>,
-}
-
-// Says what is wrong with a line, by its number; the run goes on.
-fn complain(rt: &impl Print, number: u64, bad: Bad) -> io::Result<()> {
-    println!(rt; "error {number} {bad}")
 }
 
 impl<R: BufRead> Script<R> {
@@ -67,7 +63,7 @@ impl<R: BufRead> Script<R> {
             };
             match line.and_then(|line| read_head::<H>(Words::new(heap, line))) {
                 Ok(head) => return Ok(Some(head)),
-                Err(bad) => complain(rt, number, bad)?,
+                Err(bad) => print_error(rt, number, bad)?,
             }
         }
         Ok(None)
@@ -77,7 +73,7 @@ impl<R: BufRead> Script<R> {
     pub(crate) fn run<S: SealingScheme, L: TokenLog, T: TokenStore>(
         &mut self,
         rt: &impl Print,
-        session: &mut Session<S, L, T>,
+        session: &mut Session<'_, S, L, T>,
     ) -> anyhow::Result<()> {
         let heap = self.heap;
         for _ in 0..u64::MAX {
@@ -85,8 +81,8 @@ impl<R: BufRead> Script<R> {
                 return Ok(());
             };
             match line.and_then(|line| read_call(Words::new(heap, line))) {
-                Ok(command) => session.call(rt, command)?,
-                Err(bad) => complain(rt, number, bad)?,
+                Ok(command) => session.call(rt, number, command)?,
+                Err(bad) => print_error(rt, number, bad)?,
             }
         }
         Ok(())

@@ -1,23 +1,26 @@
 // Makes the calls, and keeps the slip of the last arrival until it is spent.
 ghost use Rattle.std.specs.Prelude.{◌≤◌, vec_len};
 
-use crate::answer::{Bytes, print_refusal, print_verdict};
-use crate::command::{Arrive, Command, End, Insert, Issue, Retry, Take};
-use crate::words::MOST;
+use crate::answer::{Bytes, print_error, print_refusal, print_verdict};
+use crate::command::{Arrive, Command, End, Insert, Issue, PathCall, Retry, Take};
+use crate::desk::{Desk, Unmade};
+use crate::words::{Bad, MOST};
 use answers::Refused;
 use bloom::optimal_k_num;
-use gate::{Arrived, Gate, Slip};
+use gate::{Accepted, Arrived, Gate, Slip};
 use sealing::{Nonce, SealingScheme};
-use std::alloc::{AllocError, Global};
 use std::{io, mem};
 use token_log::TokenLog;
 use token_store::TokenStore;
 
-// What a script's calls are made on: the gate, the store, two buffers, and the slip that is open, if one is.
-pub(crate) struct Session<S, L, T> {
+// What a script's calls are made on: the gate, the store, the paths, two buffers, the slip that is open, if one is, and the last
+// arrival that was accepted, if no path opened for it.
+pub(crate) struct Session<'a, S, L, T> {
     gate: Gate<S, L>,
     store: T,
+    desk: Desk<'a>,
     slip: Option<Slip>,
+    accepted: Option<Accepted>,
     out: Vec<u8>,
     working: Vec<u8>,
 }
@@ -36,37 +39,42 @@ fn cut(buffer: &Vec<u8>, length: usize) -> usize
     length.min(buffer.len())
 }
 
-impl<S: SealingScheme + Drop, L: TokenLog + Drop, T: TokenStore + Drop> Session<S, L, T> {
+impl<'a, S: SealingScheme + Drop, L: TokenLog + Drop, T: TokenStore + Drop> Session<'a, S, L, T> {
     pub(crate) fn new(
-        heap: Global,
         gate: Gate<S, L>,
         store: T,
-    ) -> Result<Session<S, L, T>, AllocError> {
-        let out = vec![in heap; 0; MOST]?;
-        let working = vec![in heap; 0; MOST]?;
-        Ok(Session {
+        desk: Desk<'a>,
+        out: Vec<u8>,
+        working: Vec<u8>,
+    ) -> Session<'a, S, L, T> {
+        Session {
             gate,
             store,
+            desk,
             slip: None,
+            accepted: None,
             out,
             working,
-        })
+        }
     }
 
-    // Ends the session. A slip that is still open is ignored.
+    // Ends the session. A slip that is still open is ignored, and paths and grants lapse.
     pub(crate) fn end(self) {
         let Session {
             gate: _,
             store: _,
+            desk,
             slip,
+            accepted: _,
             out: _,
             working: _,
         } = self;
         ignore(slip);
+        desk.end();
     }
 }
 
-impl<S: SealingScheme, L: TokenLog, T: TokenStore> Session<S, L, T> {
+impl<S: SealingScheme, L: TokenLog, T: TokenStore> Session<'_, S, L, T> {
     // Has this slip open, and no other.
     fn open(&mut self, slip: Option<Slip>) {
         ignore(mem::replace(&mut self.slip, slip));
@@ -140,7 +148,7 @@ impl<S: SealingScheme, L: TokenLog, T: TokenStore> Session<S, L, T> {
         };
         match end {
             End::Accept => {
-                slip.accept();
+                self.accepted = Some(slip.accept());
                 println!(rt; "accepted")
             }
             End::Refuse => {
@@ -171,8 +179,52 @@ impl<S: SealingScheme, L: TokenLog, T: TokenStore> Session<S, L, T> {
         }
     }
 
-    // Makes one call, and prints what it answers.
-    pub(crate) fn call(&mut self, rt: &impl Print, command: Command<'_>) -> io::Result<()> {
+    // Makes a call on a path, and gives the word for it.
+    fn on_path(&mut self, call: PathCall) -> Result<&'static str, Unmade> {
+        match call {
+            PathCall::Open { path } => {
+                self.desk.open(path, &mut self.accepted)?;
+                Ok("opened")
+            }
+            PathCall::Validate { path } => {
+                self.desk.validate(path)?;
+                Ok("validated")
+            }
+            PathCall::Receive { path, bytes } => {
+                self.desk.receive(path, bytes)?;
+                Ok("received")
+            }
+            PathCall::Grant { path, grant, bytes } => {
+                self.desk.grant(path, grant, bytes)?;
+                Ok("granted")
+            }
+            PathCall::Spend { path, grant, sent } => {
+                self.desk.spend(path, grant, sent)?;
+                Ok("spent")
+            }
+            PathCall::Close { path } => {
+                self.desk.close(path)?;
+                Ok("closed")
+            }
+        }
+    }
+
+    fn path(&mut self, rt: &impl Print, number: u64, call: PathCall) -> io::Result<()> {
+        match self.on_path(call) {
+            Ok(word) => println!(rt; "{word}"),
+            Err(Unmade::Taken) => print_error(rt, number, Bad::Line("taken")),
+            Err(Unmade::Refused(refusal)) => print_refusal(rt, refusal),
+            Err(unmade) => println!(rt; "{unmade}"),
+        }
+    }
+
+    // Makes the call of a line, and prints what it answers.
+    pub(crate) fn call(
+        &mut self,
+        rt: &impl Print,
+        number: u64,
+        command: Command<'_>,
+    ) -> io::Result<()> {
         match command {
             Command::Issue(call) => self.issue(rt, call),
             Command::Arrive(call) => self.arrive(rt, call),
@@ -180,6 +232,7 @@ impl<S: SealingScheme, L: TokenLog, T: TokenStore> Session<S, L, T> {
             Command::Spend(end) => self.spend(rt, end),
             Command::Insert(call) => self.insert(rt, call),
             Command::Take(call) => self.take(rt, call),
+            Command::Path(call) => self.path(rt, number, call),
             Command::HashCount { budget, hits } => println!(rt;
                 "k {}",
                 optimal_k_num(budget, hits)

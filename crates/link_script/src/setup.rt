@@ -1,13 +1,16 @@
 // Makes what the head asks for, and runs the rest of the script over it.
 use crate::answer::print_refusal;
+use crate::desk::{Desk, LENT_PATHS};
 use crate::head::{GateHead, Limits, LogHead, SchemeHead, StoreHead};
 use crate::script::Script;
 use crate::session::Session;
+use crate::words::MOST;
 use answers::{Refusal, Refused};
 use bloom::{BloomFilter, MAX_BUDGET, allocate_words, optimal_k_num, sure_count};
 use ccm::CcmScheme;
 use filter::{ExactSet, Places};
 use gate::Gate;
+use path_table::PathTable;
 use record_pool::Record;
 use sealing::{BenchScheme, SealingScheme};
 use std::alloc::{AllocError, Global};
@@ -199,7 +202,11 @@ fn run_session<S: SealingScheme + Drop, L: TokenLog + Drop, T: TokenStore + Drop
     gate: Gate<S, L>,
     store: T,
 ) -> Result<(), Stop> {
-    let mut session = Session::new(script.heap, gate, store)?;
+    let out = vec![in script.heap; 0; MOST]?;
+    let working = vec![in script.heap; 0; MOST]?;
+    let mut records = [Record::new(None); LENT_PATHS];
+    let desk = Desk::new(PathTable::new(&mut records)?);
+    let mut session = Session::new(gate, store, desk, out, working);
     let ran = script.run(rt, &mut session);
     session.end();
     Ok(ran?)

@@ -76,6 +76,15 @@ impl<'a> Words<'a> {
         self.parsed("not a port")
     }
 
+    // A number below another one.
+    pub(crate) fn below(&mut self, end: usize, otherwise: &'static str) -> Result<usize, Bad> {
+        let number = self.parsed(otherwise)?;
+        if number >= end {
+            return Err(Bad::Line(otherwise));
+        }
+        Ok(number)
+    }
+
     // Bytes in hex, `-` for none.
     pub(crate) fn bytes(&mut self) -> Result<Vec<u8>, Bad> {
         let word = self.next()?;

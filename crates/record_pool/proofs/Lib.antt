@@ -1,5 +1,5 @@
-mod Cells
-mod Runs
+pub mod Cells
+pub mod Runs
 pub mod Sharing
 pub mod Writes
 pub mod Steps

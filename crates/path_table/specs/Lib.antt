@@ -1,0 +1,4 @@
+pub mod Meters
+pub mod Paths
+pub mod Tables
+pub mod Laws

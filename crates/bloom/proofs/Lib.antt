@@ -1,3 +1,5 @@
 pub mod Positions
 pub mod Doubling
 pub mod Going
+pub mod Storing
+pub mod Counting

@@ -1,9 +1,9 @@
 -- The positions of a fingerprint: the ones that are still to come, and all of them as a list.
-use Rattle.std.proofs.Common.{Bool, [], ◌∷◌, ◌-◌, mod-eq_of_lt, ◌≡◌, ℕ, ◌+◌, ◌%◌, ◌<◌, ◌≤◌, List, sym, refl, ◌∙◌, add-one, arith}
+use Rattle.std.proofs.Common.{Bool, true, [], ◌∷◌, ◌-◌, mod-eq_of_lt, mod-lt, ◌≡◌, ℕ, zero, suc, ◌+◌, ◌%◌, ◌<◌, ◌≤◌, nat_eq, List, sym, refl, ap, ◌∙◌, ⊎_elim, add-one, arith}
+use Rattle.std.proofs.lemmas.Bool.{false≢true, eqb-true, or_cases}
+use Rattle.filter.specs.Lists.{member}
 use native.Mathlib.Nat.{mod-eq-sub-mod}
-use Rattle.bloom.specs.Bits.{bit, set_bit, step, ahead, all_set, with_set}
-use Rattle.bloom.specs.BitLaws.{all_from_first, with_from_first}
-use Rattle.std.specs.List.{fold, list_all}
+use Rattle.bloom.specs.Bits.{ahead}
 
 pub ahead_none : (m s p n : ℕ) → n ≡ 0 → ahead m s p n ≡ []
 unfolding ahead
@@ -16,9 +16,9 @@ ahead_more m s p n j q e d = rw (e, d, add-one) refl
 pub past_end : (m p s q : ℕ) → p < m → s < m → m ≤ p + s → q ≡ p + s - m → q ≡ (p + s) % m
 past_end m p s q h k l e = let r : p + s - m < m = omega arith in e ∙ sym (mod-eq-sub-mod l ∙ mod-eq_of_lt r)
 
--- the same of a list that is these positions
-pub tested : (ws vs xs : List ℕ) (m b f k : ℕ) (r : Bool) → r ≡ list_all (bit vs) xs → vs ≡ ws → xs ≡ ahead b (step b f) (f % b) k → b ≡ m → r ≡ all_set ws m f k
-tested ws vs xs m b f k r e v x n = e ∙ rw (v, x, n) (all_from_first ws m f k)
-
-pub written : (ws vs us xs : List ℕ) (m b f k : ℕ) → us ≡ fold set_bit vs xs → vs ≡ ws → xs ≡ ahead b (step b f) (f % b) k → b ≡ m → us ≡ with_set ws m f k
-written ws vs us xs m b f k e v x n = e ∙ rw (v, x, n) (with_from_first ws m f k)
+-- every position is below the number of bits
+pub position_lt : (m s n q p : ℕ) → q < m → member p (ahead m s q n) ≡ true → p < m
+unfolding ahead
+position_lt m s zero q p l h = absurd (false≢true h)
+position_lt m s (suc n) q p l h =
+    ⊎_elim (λ (e : nat_eq q p ≡ true). omega (arith, eqb-true q p e)) (λ t. position_lt m s n ((q + s) % m) p (mod-lt (q + s) (omega arith)) t) (or_cases (nat_eq q p) (member p (ahead m s ((q + s) % m) n)) h)

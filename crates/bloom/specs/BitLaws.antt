@@ -1,16 +1,16 @@
 -- Lemmas on bits: what setting those of a fingerprint does to each, and what testing them tells.
-use Rattle.std.proofs.Common.{◌≡◌, ℕ, zero, suc, ◌+◌, ◌*◌, ◌/◌, ◌%◌, ◌^◌, ◌<◌, ◌≤◌, Bool, true, false, ◌&&◌, ◌||◌, nat_eq, List, [], ◌∷◌, length, slice_index, set, replicate, sym, refl, ap, ◌∙◌, ⊎_elim, mod-lt, add-zero, zero-add, arith, length-set}
+use Rattle.std.proofs.Common.{◌≡◌, ℕ, zero, suc, ◌+◌, ◌*◌, ◌/◌, ◌%◌, ◌^◌, ◌<◌, ◌≤◌, Bool, true, false, ◌&&◌, ◌||◌, nat_eq, List, [], ◌∷◌, ◌++◌, length, slice_index, set, replicate, sym, refl, ap, ◌∙◌, ⊎_elim, mod-lt, add-zero, zero-add, arith, length-set}
 use native.Mathlib.Nat.{zero-div}
 use lib.Bits.{bit_or}
 use Rattle.std.proofs.Math.Bool.{or_assoc, or-false}
 use Rattle.std.specs.List.{fold, list_all}
-use Rattle.std.proofs.lemmas.List.{get_or-set_same, get_or-set_other, get_or-replicate, get_or_past, length-replicate}
-use Rattle.std.proofs.lemmas.Bool.{false≢true, eqb-true, eq-eqb, ne_eqb, cases_eq, cases_lt, and_from, and_left, and_parts, or_cases, or_left, or_right}
+use Rattle.std.proofs.lemmas.List.{get_or-set_same, get_or-set_other, get_or-replicate, get_or_append_left, length-replicate}
+use Rattle.std.proofs.lemmas.Bool.{false≢true, eqb-true, eq-eqb, ne_eqb, cases_eq, and_from, and_left, and_parts, or_cases, or_left, or_right}
 use Rattle.filter.specs.Lists.{member}
 use Rattle.bloom.specs.Bits.{bit, set_bit, step, position, ahead, all_set, with_set}
 use Rattle.bloom.specs.OneBit.{or_one}
 
-length-set_bit : (ws : List ℕ) (q : ℕ) → length (set_bit ws q) ≡ length ws
+pub length-set_bit : (ws : List ℕ) (q : ℕ) → length (set_bit ws q) ≡ length ws
 unfolding set_bit
 length-set_bit ws q = length-set ws (q / 64) _
 
@@ -23,7 +23,7 @@ same_bit q p w =
     (cases_eq q p)
 
 -- every bit after one was set
-bit-set : (ws : List ℕ) (q p : ℕ) → q / 64 < length ws → bit (set_bit ws q) p ≡ (bit ws p || nat_eq q p)
+pub bit-set : (ws : List ℕ) (q p : ℕ) → q / 64 < length ws → bit (set_bit ws q) p ≡ (bit ws p || nat_eq q p)
 unfolding set_bit
 bit-set ws q p h =
     let w = slice_index ws (q / 64) in
@@ -101,19 +101,22 @@ pub with_from_first : (ws : List ℕ) (m f k : ℕ) → fold set_bit ws (ahead m
 unfolding with_set position
 with_from_first ws m f k = with_ahead ws m f k 0 ∙ ap (with_set ws m f) (zero-add k)
 
--- no bit of zeros is set
-zero_word : (n i : ℕ) → ◌≡◌ {A = ℕ} (slice_index (replicate n 0) i) 0
-zero_word n i = ⊎_elim (λ h. get_or-replicate n i 0 0 h) (λ h. get_or_past (replicate n 0) i 0 (omega (arith, length-replicate {A = ℕ} n 0))) (cases_lt i n)
+-- no bit of zeros is set, whatever follows them
+pub zero_word : (n i : ℕ) (rest : List ℕ) → i < n → ◌≡◌ {A = ℕ} (slice_index (replicate n 0 ++ rest) i) 0
+zero_word n i rest h = get_or_append_left (replicate n 0) rest 0 i (omega (arith, length-replicate {A = ℕ} n 0)) ∙ get_or-replicate n i 0 0 h
 
-pub no_bit : (n p : ℕ) → bit (replicate n 0) p ≡ false
-no_bit n p =
-    let z : slice_index (replicate n 0) (p / 64) / 2 ^ (p % 64) ≡ 0 = ap (λ (x : ℕ). x / 2 ^ (p % 64)) (zero_word n (p / 64)) ∙ zero-div (2 ^ (p % 64)) in
+pub no_bit : (n p : ℕ) (rest : List ℕ) → p < n * 64 → bit (replicate n 0 ++ rest) p ≡ false
+no_bit n p rest h =
+    let z : slice_index (replicate n 0 ++ rest) (p / 64) / 2 ^ (p % 64) ≡ 0 =
+    ap (λ (x : ℕ). x / 2 ^ (p % 64)) (zero_word n (p / 64) rest (omega arith)) ∙ zero-div (2 ^ (p % 64)) in
     ne_eqb _ 1 (λ e. omega arith)
 
-pub none_set : (n m f k : ℕ) → 0 < k → all_set (replicate n 0) m f k ≡ false
+pub none_set : (n f k : ℕ) (rest : List ℕ) → 0 < n → 0 < k → all_set (replicate n 0 ++ rest) (n * 64) f k ≡ false
 unfolding ahead
-none_set n m f zero h = absurd (omega arith)
-none_set n m f (suc k) h = sym (all_from_first (replicate n 0) m f (suc k)) ∙ and_left _ _ (no_bit n (f % m))
+none_set n f zero rest some h = absurd (omega arith)
+none_set n f (suc k) rest some h =
+    let m : 0 < n * 64 = omega arith in
+    sym (all_from_first (replicate n 0 ++ rest) (n * 64) f (suc k)) ∙ and_left _ _ (no_bit n (f % (n * 64)) rest (mod-lt f m))
 
 -- what setting those of f leaves
 module _ (ws : List ℕ) (m f : ℕ) (some : 0 < m) (fits : m ≤ 64 * length ws) where

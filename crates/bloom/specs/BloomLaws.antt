@@ -1,10 +1,11 @@
 -- Lemmas on what a Bloom filter means before and after a call: what its `impl` owes the interface.
-use Rattle.std.proofs.Common.{◌≡◌, ℕ, ◌*◌, ◌<◌, ◌≤◌, Bool, true, false, cond, List, length, replicate, is_ok, vec_len, vec_items, refl, ap, ◌∙◌, arith}
+use Rattle.std.proofs.Common.{◌≡◌, ℕ, ◌*◌, ◌<◌, ◌≤◌, Bool, true, false, cond, List, ◌++◌, length, drop, replicate, is_ok, refl, ap, ◌∙◌, arith}
 use Rattle.std.proofs.lemmas.Bool.{cond-true, cond-false}
 use Rattle.filter.specs.Filter.{Answer, Records, Emptied, reply}
 use Rattle.filter.specs.SetLaws.{same}
 use Rattle.bloom.specs.Bits.{with_set}
 use Rattle.bloom.specs.Bloom.{bloom}
+use Rattle.bloom.specs.declared.words.Words.{Ghosts}
 use Rattle.bloom.specs.declared.bloom.BloomFilter.{BloomFilter}
 use Rattle.bloom.specs.Means.{bloom_means, BloomRecords, BloomEmpties}
 use Rattle.bloom.specs.BitLaws.{length_with, refuses_f, refuses_still, none_set}
@@ -25,26 +26,24 @@ module _ (ws vs : List ℕ) (m f k : ℕ) (r : Answer) (some : 0 < m) (fits : m 
     });
   }
 
-  length_after : length vs ≡ length ws
-  length_after = after (is_ok r) words where
-    after : (b : Bool) → vs ≡ cond b (with_set ws m f k) ws → length vs ≡ length ws
-    after true e = ap length e ∙ length_with ws m f some fits k
-    after false e = ap length e
+-- told with other numbers that are the same
+renamed : (ws vs : List ℕ) (m m' f k k' : ℕ) (r : Answer) → m' ≡ m → k' ≡ k → Records f (bloom ws m k) (bloom vs m k) r → Records f (bloom ws m k) (bloom vs m' k') r
+renamed ws vs m m' f k k' r e h w = rw (e, h) w
 
-pub bloom_recorded : (b b' : BloomFilter) (f : ℕ) (r : Answer) → BloomRecords b f r b' → Records f (bloom_means b) (bloom_means b') r
-bloom_recorded b b' f r w =
-    let ws : List ℕ = vec_items b.words in
-    let vs : List ℕ = vec_items b'.words in
-    let m : ℕ = vec_len b.words * 64 in
-    let n : vec_len b.words ≡ length ws = b.words.ok.0 in
-    let some : 0 < m = omega (arith, b.some) in
-    let fits : m ≤ 64 * length ws = omega arith in
-    let l = length_after ws vs m f b.k r some fits w.answer w.words in
-    let e : vec_len b'.words * 64 ≡ m = omega (arith, b'.words.ok.0) in
-    rw (e, w.hashes) (records_bloom ws vs m f b.k r some fits w.answer w.words)
+emptied_bloom : (ws vs rest : List ℕ) (m n n' k k' : ℕ) → vs ≡ replicate n 0 ++ rest → n' ≡ n → k' ≡ k → 0 < n → 0 < k → Emptied (bloom ws m k) (bloom vs (n' * 64) k')
+emptied_bloom ws vs rest m n n' k k' e c h s t = rw (e, c, h) (record { none = λ g. none_set n g k rest s t; sures = refl; counts = refl })
 
-emptied_bloom : (ws vs : List ℕ) (m m' n k k' : ℕ) → vs ≡ replicate n 0 → k' ≡ k → 0 < k → Emptied (bloom ws m k) (bloom vs m' k')
-emptied_bloom ws vs m m' n k k' e h some = rw (e, h) (record { none = λ g. none_set n m' g k some; sures = refl; counts = refl })
+module _ {W : Type 0} {g : Ghosts W} where
+  pub bloom_recorded : (b b' : BloomFilter W g) (f : ℕ) (r : Answer) → BloomRecords b f r b' → Records f (bloom_means b) (bloom_means b') r
+  bloom_recorded b b' f r w =
+      let ws : List ℕ = g.words b.memory in
+      let vs : List ℕ = g.words b'.memory in
+      let m : ℕ = b.count * 64 in
+      let some : 0 < m = omega (arith, b.some) in
+      let fits : m ≤ 64 * length ws = omega (arith, b.fits) in
+      renamed ws vs m (b'.count * 64) f b.k b'.k r (ap (λ z. z * 64) w.count) w.hashes (records_bloom ws vs m f b.k r some fits w.answer w.words)
 
-pub bloom_emptied : (b b' : BloomFilter) → BloomEmpties b b' → Emptied (bloom_means b) (bloom_means b')
-bloom_emptied b b' w = emptied_bloom (vec_items b.words) (vec_items b'.words) (vec_len b.words * 64) (vec_len b'.words * 64) (vec_len b.words) b.k b'.k w.words w.hashes b.hashes
+  pub bloom_emptied : (b b' : BloomFilter W g) → BloomEmpties b b' → Emptied (bloom_means b) (bloom_means b')
+  bloom_emptied b b' w =
+      emptied_bloom (g.words b.memory) (g.words b'.memory) (drop b.count (g.words b.memory)) (b.count * 64) b.count b'.count b.k b'.k w.memory.words_zero w.count w.hashes
+      b.some b.hashes

@@ -1,6 +1,8 @@
 pub mod Bits
 pub mod Bloom
 pub mod Sizes
+pub mod Stores
+pub mod Changes
 pub mod HashCount
 pub mod Means
 pub mod OneBit

@@ -1,7 +1,9 @@
 ghost use Rattle.std.specs.Prelude.{◌≡◌, ℕ, ◌+◌, ◌*◌, ◌%◌, ◌^◌, ◌<◌, ◌≤◌, ◌∷◌, [], length, MatchOption};
 ghost use Rattle.std.specs.Iterator.{at_most};
-ghost use Rattle.std.specs.List.{fold, list_all};
-ghost use Rattle.bloom.specs.Bits.{step as step_of, bit, set_bit, ahead};
+ghost use Rattle.bloom.specs.Bits.{step as step_of, bit, ahead, all_set};
+ghost use Rattle.bloom.specs.Stores.{SetsBit, Sets};
+
+use crate::words::Words;
 
 /// How many bits a word has: a position is a word and a bit in it.
 pub(crate) const WORD_BITS: u64 = 64;
@@ -66,41 +68,47 @@ fn step(bits: u64, f: u64) -> u64
     1 + (f >> 32) % (bits - 1)
 }
 
-fn test_bit(words: &[u64], at: u64) -> bool
-    requires { at < WORD_BITS * length words.now }
-    ensures { result ≡ bit words.now at }
+fn test_bit<W: Words>(memory: &W, at: u64) -> bool
+    requires { at < WORD_BITS * length (W.words memory.now) }
+    ensures { result ≡ bit (W.words memory.now) at }
 {
-    (words[(at / WORD_BITS) as usize] >> (at % WORD_BITS)) % 2 == 1
+    (memory.word((at / WORD_BITS) as usize) >> (at % WORD_BITS)) % 2 == 1
 }
 
-fn set_bit(words: &mut [u64], at: u64)
-    requires { at < WORD_BITS * length words.old }
-    ensures { words.new ≡ set_bit words.old at }
+fn set_bit<W: Words>(memory: &mut W, at: u64)
+    requires { at < WORD_BITS * length (W.words memory.old) }
+    ensures { SetsBit W.stores W.words at memory.old memory.new }
 {
-    let word = (at / WORD_BITS) as usize;
-    words[word] |= 1 << (at % WORD_BITS);
+    let place = (at / WORD_BITS) as usize;
+    let word = memory.word(place);
+    let with = word | 1 << (at % WORD_BITS);
+    if with != word {
+        memory.store(place, with);
+    }
 }
 
-// Whether the bits at all these positions are set. A loop, as a closure for `all` could not show that a position is below
+// Whether the bits at the k positions of f are all set. A loop, as a closure for `all` could not show that a position is below
 // the number of bits.
-pub fn all_set(words: &[u64], positions: Positions) -> bool
-    requires { positions.bits ≤ WORD_BITS * length words.now }
-    ensures { result ≡ list_all (bit words.now) (ahead positions.bits positions.step positions.at positions.left) }
+pub(crate) fn all_set<W: Words>(memory: &W, bits: u64, f: u64, k: u32) -> bool
+    requires some { (2 ≤ bits) × (bits < 2 ^ 63) }
+    requires within { bits ≤ WORD_BITS * length (W.words memory.now) }
+    ensures { result ≡ all_set (W.words memory.now) bits f k }
 {
-    for at in positions {
-        if !test_bit(words, at) {
+    for at in Positions::of(f, bits, k) {
+        if !test_bit(memory, at) {
             return false;
         }
     }
     true
 }
 
-// Sets the bits at all these positions.
-pub fn set_all(words: &mut [u64], positions: Positions)
-    requires { positions.bits ≤ WORD_BITS * length words.old }
-    ensures { words.new ≡ fold set_bit words.old (ahead positions.bits positions.step positions.at positions.left) }
+// Sets the bits at the k positions of f.
+pub(crate) fn set_all<W: Words>(memory: &mut W, bits: u64, f: u64, k: u32)
+    requires some { (2 ≤ bits) × (bits < 2 ^ 63) }
+    requires within { bits ≤ WORD_BITS * length (W.words memory.old) }
+    ensures { Sets W.stores W.words bits f k memory.old memory.new }
 {
-    for at in positions {
-        set_bit(words, at);
+    for at in Positions::of(f, bits, k) {
+        set_bit(memory, at);
     }
 }

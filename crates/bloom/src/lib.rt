@@ -1,5 +1,8 @@
 //! The Bloom filter, and what a byte budget gives: its words, the sure count of a turning filter, and the number of hash
-//! positions that suits. No call allocates, but `allocate_words`.
+//! positions that suits.
+//!
+//! `Words` says what memory for the words owes: a filter stores a word only where a bit changes. The usual one is a `Vec<u64>`. No
+//! call allocates, but `allocate_words`.
 #![tactic(auto)]
 
 mod bits;
@@ -11,10 +14,15 @@ mod laws;
 mod sizes;
 #[cfg(test)]
 mod tests;
+mod words;
 
 pub use bloom::{BloomFilter, MAX_HASHES};
 pub use hash_count::optimal_k_num;
-pub use laws::bloom_filters_answer_by_what_they_recorded;
+pub use laws::{
+    a_call_stores_as_often_as_it_changes, a_vec_keeps_its_capacity,
+    bloom_filters_answer_by_what_they_recorded,
+};
 pub use sizes::{
     MAX_BUDGET, allocate_words, bloom_words, sure_count, the_limits_are_those_of_the_rules,
 };
+pub use words::Words;

@@ -1,8 +1,9 @@
-ghost use Rattle.std.specs.Prelude.{◌≡◌, ◌≤◌, [], IfOk, vec_capacity};
+ghost use Rattle.std.specs.Prelude.{◌≡◌, ◌≤◌, replicate, IfOk, vec_capacity};
 ghost use Rattle.bloom.specs.Sizes.{half as half_of, words_for, Largest};
 
 use crate::bits::WORD_BITS;
 use crate::bloom::MAX_HASHES;
+use filter::filled;
 use std::alloc::{AllocError, Global};
 
 /// The largest byte budget.
@@ -36,10 +37,12 @@ pub fn bloom_words(budget: u32) -> usize
     (budget as usize / 2).div_ceil(8).max(1)
 }
 
-/// Memory for the words of a Bloom filter under a budget in bytes, and no more.
+/// Memory for the words of a Bloom filter under a budget in bytes, and no more: they are there, and zero.
 pub fn allocate_words(heap: Global, budget: u32) -> Result<Vec<u64>, AllocError>
-    ensures blank { IfOk result (λ v. v.items ≡ []) }
+    ensures blank { IfOk result (λ v. v.items ≡ replicate (words_for budget) 0) }
     ensures room { IfOk result (λ v. vec_capacity v ≡ words_for budget) }
 {
-    Vec::with_capacity(heap, bloom_words(budget))
+    let count = bloom_words(budget);
+    let memory = Vec::with_capacity(heap, count)?;
+    Ok(filled(memory, 0, count).unwrap())
 }

@@ -1,6 +1,10 @@
 #![tactic(auto)]
 
+mod bits;
+mod counted;
+
 use anyhow::anyhow;
+use bits::measure_bits;
 use filter::{ExactSet, Filter, ListingFilter, Places};
 use std::env;
 use std::time::Instant;
@@ -25,9 +29,9 @@ impl Iterator for Row {
 }
 
 // Records so many fingerprints of a row, and answers the rest of it.
-fn record_all(set: &mut ExactSet, mut row: Row, count: u32) -> Row {
+fn record_all<F: Filter>(filter: &mut F, mut row: Row, count: u32) -> Row {
     for f in row.by_ref().take(count as usize) {
-        let _ = set.record(f);
+        let _ = filter.record(f);
     }
     row
 }
@@ -106,13 +110,19 @@ fn measure(rt: &HostRuntime, held: u32) -> anyhow::Result<()> {
 }
 
 fn run(rt: &HostRuntime) -> anyhow::Result<()> {
-    if env::args(rt)?.count() < 2 {
-        println!(rt; "filter_bench run: hundredths of a nanosecond for a record and a lookup")?;
-        return Ok(());
+    match env::args(rt)?.nth(1).as_deref() {
+        None => {
+            println!(rt; "filter_bench run: hundredths of a nanosecond for a record and a lookup")?;
+            println!(rt; "filter_bench bits: the same of Bloom filters, and how often they store")?;
+            Ok(())
+        }
+        Some("bits") => measure_bits(rt),
+        Some(_) => {
+            measure(rt, 1_000)?;
+            measure(rt, 30_000)?;
+            measure(rt, 458_752)
+        }
     }
-    measure(rt, 1_000)?;
-    measure(rt, 30_000)?;
-    measure(rt, 458_752)
 }
 
 fn main(rt: HostRuntime) -> anyhow::Result<()> {

@@ -96,7 +96,7 @@ fn set(heap: Global, capacity: u32) -> Result<ExactSet, Stop> {
     Ok(ExactSet::new(capacity, places)?)
 }
 
-fn bloom(heap: Global, budget: u32, k: u32) -> Result<BloomFilter, Stop> {
+fn bloom(heap: Global, budget: u32, k: u32) -> Result<BloomFilter<Vec<u64>>, Stop> {
     let words = allocate_words(heap, budget.min(MAX_BUDGET))?;
     Ok(BloomFilter::new(budget, k, words)?)
 }

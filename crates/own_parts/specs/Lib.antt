@@ -5,3 +5,4 @@ pub mod Few
 pub mod FewLaws
 pub mod Clients
 pub mod Shifting
+pub mod Banks

@@ -1,6 +1,7 @@
 #![tactic(auto)]
 // Small parts put under the library's interfaces as a buyer would, of another kind than its own. docs/OWN-PARTS.md goes
 // through them.
+mod banks;
 mod clients;
 mod few;
 mod forward;
@@ -10,6 +11,7 @@ mod slot;
 #[cfg(test)]
 mod tests;
 
+pub use banks::Banks;
 pub use clients::{Guest, issue_and_admit, serve, serve_all};
 pub use few::Few;
 pub use forward::Forward;

@@ -7,7 +7,7 @@ use std::alloc::Global;
 use std::process::Abort;
 use std::string::String;
 use std::test::Fail;
-use token_log::{Lifetime, TokenLog, TwoGenerationLog};
+use token_log::{BloomTokenLog, GenerationMemory, Lifetime, LogMemory, TokenLog, TwoGenerationLog};
 use token_store::TokenStore;
 use wire::{IpAddr, SocketAddr};
 
@@ -185,5 +185,40 @@ fn gone_over_in_order(rt: HostRuntime) -> Result<(), Fail> {
     let (_, other) = filter.into_parts();
     let poured = listing(rt.alloc(), &other)?;
     assert_eq!(rt; poured.as_str(), "0: 7; 1: 1; 2: 9; 3: 5; 4: 4; ");
+    Ok(())
+}
+
+// Memory for a generation of budget 48: places for its three sure ones and one more, and one word more than its three.
+fn in_banks(heap: Global) -> Result<GenerationMemory<Banks>, Fail> {
+    let low = vec![in heap; 7]?;
+    let high = vec![in heap; u64::MAX, 0, 9]?;
+    Ok(GenerationMemory {
+        places: Places::allocate(heap, 4)?,
+        words: Banks { low, high },
+    })
+}
+
+// A log from a budget, whose words lie in two banks and held something before; its fourth low half makes it go over.
+#[test]
+fn banks_in_a_log(rt: HostRuntime) -> Result<(), Fail> {
+    let one = in_banks(rt.alloc())?;
+    let two = in_banks(rt.alloc())?;
+    let Ok(mut log) = BloomTokenLog::with_hashes(48, 3, LogMemory { one, two }) else {
+        return Err(Fail::new("a log of 48 bytes"));
+    };
+    let lifetime = minute()?;
+    for low in 1..=5 {
+        assert_eq!(rt; log.check_and_insert(low, 1000, lifetime), Ok(()));
+        assert_eq!(rt;
+            log.check_and_insert(low, 1000, lifetime),
+            Err(LogCause::Held)
+        );
+    }
+    // 1 to 5 have the positions 1, 2, 3 to 5, 6, 7.
+    let memory = log.into_memory();
+    assert!(rt; memory.one.words.low.as_slice() == [0].as_slice());
+    assert!(rt; memory.one.words.high.as_slice() == [0, 0, 9].as_slice());
+    assert!(rt; memory.two.words.low.as_slice() == [0xfe].as_slice());
+    assert!(rt; memory.two.words.high.as_slice() == [0, 0, 9].as_slice());
     Ok(())
 }

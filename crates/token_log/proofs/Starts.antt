@@ -1,5 +1,5 @@
 -- Logs that no call was made of stand as the unused machine.
-use Rattle.std.proofs.Common.{◌≡◌, ℕ, ◌-◌, ◌*◌, false, List, [], ◌∷◌, vec_len, vec_items, sym, refl, ◌∙◌, subst, ◌⊎◌, inl, inr, arith}
+use Rattle.std.proofs.Common.{◌≡◌, ℕ, ◌-◌, ◌*◌, false, List, [], ◌∷◌, vec_items, sym, refl, ◌∙◌, subst, ◌⊎◌, inl, inr, arith}
 use Rattle.std.proofs.lemmas.Bool.{false≢true, eq-eqb, or_left, or_parts}
 use Rattle.filter.specs.declared.exact.ExactSet.{ExactSet}
 use Rattle.filter.specs.declared.turning.Form.{Form}
@@ -12,8 +12,9 @@ use Rattle.filter.specs.Sets.{set_means, SetRecords, SetEmpties}
 use Rattle.filter.specs.Turning.{in_form, Turns, Returns}
 use Rattle.filter.proofs.Going.{GoesBy, from_answers, set_answers_by}
 use Rattle.filter.proofs.TurningGoes.{Turned, sets_turn, begins}
+use Rattle.bloom.specs.declared.words.Words.{Ghosts}
 use Rattle.bloom.specs.declared.bloom.BloomFilter.{BloomFilter}
-use Rattle.bloom.specs.Sizes.{words_for}
+use Rattle.bloom.specs.Sizes.{words_for, bits_for}
 use Rattle.bloom.specs.Marks.{bloom_says}
 use Rattle.bloom.specs.Means.{bloom_means, BloomRecords, BloomEmpties}
 use Rattle.bloom.proofs.Going.{BloomHas, bloom_blurs, cleared, bloom_answers_by}
@@ -39,12 +40,12 @@ sets_answer one two e =
     let P : ℕ → Type 0 = λ c. AnswersBy SetRecords SetEmpties (set_says c) two in
     log_answers SetRecords SetEmpties (set_says one.capacity) one two (set_answers_by one) (subst P e (set_answers_by two))
 
-pub bloom_filters_answer : (one two : BloomFilter) → vec_len two.words ≡ vec_len one.words → two.k ≡ one.k → (s : TwoGenerationLog BloomFilter) → Begun BloomEmpties one two s
-    → AnswersAsItsMachine (Logs BloomRecords BloomEmpties) (bloom_says (vec_len one.words * 64) one.k) s
-bloom_filters_answer one two e f =
-    let P : ℕ → ℕ → Type 0 = λ n k. AnswersBy BloomRecords BloomEmpties (bloom_says (n * 64) k) two in
-    log_answers BloomRecords BloomEmpties (bloom_says (vec_len one.words * 64) one.k) one two (bloom_answers_by one)
-    (subst (λ k. P (vec_len one.words) k) f (subst (λ n. P n two.k) e (bloom_answers_by two)))
+pub bloom_filters_answer : {W : Type 0} {g : Ghosts W} (one two : BloomFilter W g) → two.count ≡ one.count → two.k ≡ one.k → (s : TwoGenerationLog (BloomFilter W g)) → Begun BloomEmpties one two s
+    → AnswersAsItsMachine (Logs (BloomRecords {g = g}) (BloomEmpties {g = g})) (bloom_says (one.count * 64) one.k) s
+bloom_filters_answer {g = g} one two e f =
+    let P : ℕ → ℕ → Type 0 = λ n k. AnswersBy (BloomRecords {g = g}) (BloomEmpties {g = g}) (bloom_says (n * 64) k) two in
+    log_answers (BloomRecords {g = g}) (BloomEmpties {g = g}) (bloom_says (one.count * 64) one.k) one two (bloom_answers_by one)
+    (subst (λ k. P one.count k) f (subst (λ n. P n two.k) e (bloom_answers_by two)))
 
 -- a set of which nothing is refused holds nothing
 none_held : (xs : List ℕ) (c : ℕ) → ((g : ℕ) → (exact xs c).refuses g ≡ false) → xs ≡ []
@@ -52,29 +53,28 @@ none_held [] c h = refl
 none_held (x ∷ xs) c h = absurd (false≢true (sym (or_parts _ _ (h x)).0 ∙ or_left _ _ (eq-eqb x x refl)))
 
 -- the filters of a log from a budget, and what they recorded
-module _ (budget k c : ℕ) where
-  abbrev m : ℕ
-  m = words_for budget * 64
+module _ {W : Type 0} {g : Ghosts W} (budget k c : ℕ) where
+  abbrev Has : BloomFilter W g → List ℕ → Type 0
+  Has = BloomHas (bits_for budget) k
 
-  abbrev pub Recorded : TurningFilter ExactSet BloomFilter → List ℕ → Type 0
-  Recorded = Turned BloomRecords BloomEmpties c (bloom_says m k) (BloomHas m k) (λ b. (xs : List ℕ) × BloomHas m k b xs) (bloom_blurs m k)
+  abbrev pub Recorded : TurningFilter ExactSet (BloomFilter W g) → List ℕ → Type 0
+  Recorded = Turned (BloomRecords {g = g}) (BloomEmpties {g = g}) c (bloom_says (bits_for budget) k) Has (λ b. (xs : List ℕ) × Has b xs) (bloom_blurs (bits_for budget) k)
 
-  pub budget_goes : GoesBy (Turns set_means (λ s. vec_items s.held) SetRecords BloomRecords BloomEmpties) (Returns SetEmpties) (turning_says c (bloom_says m k)) Recorded
-  budget_goes = sets_turn BloomRecords BloomEmpties c (bloom_says m k) (BloomHas m k) (λ b. (xs : List ℕ) × BloomHas m k b xs) (bloom_blurs m k)
+  pub budget_goes : GoesBy (Turns set_means (λ s. vec_items s.held) SetRecords (BloomRecords {g = g}) (BloomEmpties {g = g})) (Returns SetEmpties) (turning_says c (bloom_says (bits_for budget) k)) Recorded
+  budget_goes = sets_turn (BloomRecords {g = g}) (BloomEmpties {g = g}) c (bloom_says (bits_for budget) k) Has (λ b. (xs : List ℕ) × Has b xs) (bloom_blurs (bits_for budget) k)
 
-  generation_begins : (t : TurningFilter ExactSet BloomFilter) → Generation budget k c t → Recorded t []
-  generation_begins t g =
+  generation_begins : (t : TurningFilter ExactSet (BloomFilter W g)) → Generation budget k c t → Recorded t []
+  generation_begins t w =
       let fresh : Fresh c (in_form Listing (set_means t.set) (bloom_means t.other)) =
-      subst (λ (o : Form). Fresh c (in_form o (set_means t.set) (bloom_means t.other))) g.lists g.fresh in
+      subst (λ (o : Form). Fresh c (in_form o (set_means t.set) (bloom_means t.other))) w.lists w.fresh in
       let some = t.set.some in
       let counts : t.set.capacity - 1 ≡ c = fresh.counts in
-      begins BloomRecords BloomEmpties c (bloom_says m k) (BloomHas m k) (λ b. (xs : List ℕ) × BloomHas m k b xs) (bloom_blurs m k) t g.lists (omega arith)
-      (none_held (vec_items t.set.held) t.set.capacity fresh.none) ([], cleared t.other (words_for budget) k g.words g.hashes)
+      begins (BloomRecords {g = g}) (BloomEmpties {g = g}) c (bloom_says (bits_for budget) k) Has (λ b. (xs : List ℕ) × Has b xs) (bloom_blurs (bits_for budget) k) t w.lists (omega arith)
+      (none_held (vec_items t.set.held) t.set.capacity fresh.none) ([], cleared t.other (words_for budget) k w.words.0 w.words.1 w.count w.hashes)
 
-pub budget_stands : (budget k c : ℕ) (s : TwoGenerationLog (TurningFilter ExactSet BloomFilter)) → Budgeted budget k c s → Stands (Recorded budget k c) s unused_periods
-budget_stands budget k c s h =
-    record { start = h.starts; one = generation_begins budget k c s.one h.ones; two = generation_begins budget k c s.two h.twos }
+  pub budget_stands : (s : TwoGenerationLog (TurningFilter ExactSet (BloomFilter W g))) → Budgeted budget k c s → Stands Recorded s unused_periods
+  budget_stands s h = record { start = h.starts; one = generation_begins s.one h.ones; two = generation_begins s.two h.twos }
 
-pub budgets_answer : (budget k c : ℕ) (s : TwoGenerationLog (TurningFilter ExactSet BloomFilter)) → Budgeted budget k c s
-    → AnswersAsItsMachine (Logs (Turns set_means (λ s. vec_items s.held) SetRecords BloomRecords BloomEmpties) (Returns SetEmpties)) (turning_says c (bloom_says (words_for budget * 64) k)) s
-budgets_answer budget k c s h = answers_from _ _ _ (Recorded budget k c) (budget_goes budget k c) s (budget_stands budget k c s h)
+  pub budgets_answer : (s : TwoGenerationLog (TurningFilter ExactSet (BloomFilter W g))) → Budgeted budget k c s
+      → AnswersAsItsMachine (Logs (Turns set_means (λ s. vec_items s.held) SetRecords (BloomRecords {g = g}) (BloomEmpties {g = g})) (Returns SetEmpties)) (turning_says c (bloom_says (bits_for budget) k)) s
+  budgets_answer s h = answers_from _ _ _ Recorded budget_goes s (budget_stands s h)

@@ -27,6 +27,7 @@ pub use bloom_log::{
 use filter::Filter;
 pub use laws::{
     a_log_answers_as_its_machine, a_log_from_a_budget_answers_as_its_machine,
+    a_log_from_a_budget_over_any_memory_answers_as_its_machine,
     a_log_over_bloom_filters_answers_as_its_machine, a_log_over_sets_answers_as_its_machine,
 };
 pub use lifetime::{Lifetime, MAX_LIFETIME_NANOS, NANOS_PER_SECOND, equal_lifetimes_are_the_same};

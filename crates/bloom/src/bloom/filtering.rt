@@ -2,11 +2,12 @@ ghost use Rattle.bloom.specs.Means.{bloom_means, BloomRecords, BloomEmpties};
 ghost use Rattle.bloom.specs.BloomLaws.{bloom_recorded, bloom_emptied};
 
 use super::BloomFilter;
-use crate::bits::{Positions, all_set, set_all};
+use crate::bits::{all_set, set_all};
+use crate::words::{Words, clear};
 use answers::FilterCause;
 use filter::Filter;
 
-impl Filter for BloomFilter {
+impl<W: Words> Filter for BloomFilter<W> {
     ghost meaning = { bloom_means };
 
     ghost records = { BloomRecords };
@@ -19,14 +20,14 @@ impl Filter for BloomFilter {
 
     fn record(&mut self, f: u64) -> Result<(), FilterCause> {
         let bits = self.bits();
-        if all_set(&self.words, Positions::of(f, bits, self.k)) {
+        if all_set(&self.memory, bits, f, self.k) {
             return Err(FilterCause::Held);
         }
-        set_all(&mut self.words, Positions::of(f, bits, self.k));
+        set_all(&mut self.memory, bits, f, self.k);
         Ok(())
     }
 
     fn empty(&mut self) {
-        self.words.fill(0);
+        clear(&mut self.memory, self.count);
     }
 }

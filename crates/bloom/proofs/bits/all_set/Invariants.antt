@@ -1,10 +1,10 @@
-use Rattle.std.proofs.Common.{◌≡◌, ◌*◌, ◌≤◌, length}
+use Rattle.std.proofs.Common.{◌≡◌}
 use Rattle.std.specs.List.{list_all}
-use Rattle.bloom.specs.Bits.{bit, ahead}
+use Rattle.bloom.specs.Bits.{bit, ahead, all_set}
 use Rattle.bloom.proofs.bits.all_set.Given as goal
 
 abbrev pub invariant-loop-at : goal.invariant-loop-at
-invariant-loop-at l =
-    (goal.iterator-loop-at).can_next l.at-iterator × (goal.iterator-loop-at).is_finite l.at-iterator × (l.at-iterator.bits ≤ 64 * length l.words)
-    × (list_all (bit l.words) (ahead l.at-iterator.bits l.at-iterator.step l.at-iterator.at l.at-iterator.left)
-    ≡ list_all (bit l.words) (ahead l.fn.positions.bits l.fn.positions.step l.fn.positions.at l.fn.positions.left))
+invariant-loop-at g l =
+    (goal.iterator-loop-at g).can_next l.at-iterator × (goal.iterator-loop-at g).is_finite l.at-iterator × (l.at-iterator.bits ≡ l.fn.bits)
+    × (list_all (bit (g.W.Words.words l.memory)) (ahead l.at-iterator.bits l.at-iterator.step l.at-iterator.at l.at-iterator.left)
+    ≡ all_set (g.W.Words.words l.memory) l.fn.bits l.fn.f l.fn.k)

@@ -2,4 +2,4 @@ use Rattle.token_log.proofs.Starts.{budgets_answer}
 use Rattle.token_log.proofs.laws.a_log_from_a_budget_answers_as_its_machine.Goals as goal
 
 pub returns : goal.returns
-returns c = budgets_answer
+returns c budget k n = budgets_answer budget k n

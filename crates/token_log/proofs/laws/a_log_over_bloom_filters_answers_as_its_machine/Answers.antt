@@ -2,4 +2,4 @@ use Rattle.token_log.proofs.Starts.{bloom_filters_answer}
 use Rattle.token_log.proofs.laws.a_log_over_bloom_filters_answers_as_its_machine.Goals as goal
 
 pub returns : goal.returns
-returns c = bloom_filters_answer
+returns g c = bloom_filters_answer

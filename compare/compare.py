@@ -79,9 +79,13 @@ class Count:
 
 
 class RustScript(link_compare.Script):
-    """A random script of what the Rust has too: its logs, and lines that are calls."""
+    """A random script of what the Rust has too: its logs and its hash count, and lines that are calls."""
 
+    odd_logs = odd_stores = ()
     WEIGHTS = [30, 40, 15, 8, 10, 0, 1, 0], [5, 5, 2, 2, 80, 0, 1, 0]
+
+    def hash_count(self):
+        return self.pick("k 1000 10", "k 0 0", "k 4294967295 1")
 
     def log(self):
         k = self.pick(1, 3, 64)
@@ -91,9 +95,6 @@ class RustScript(link_compare.Script):
 
     def cache(self):
         return "cache"
-
-    def odd_stores(self):
-        return ()
 
     def head(self):
         return itertools.islice(super().head(), 1, None)

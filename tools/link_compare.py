@@ -25,7 +25,6 @@ NO_TOKENS = ["-", "00" * 15, "00" * 16, "00" * 81, "00" * 82]
 NAMES = ["a", "b", "c", "d", "-", "n" * 255, "n" * 254 + "m"]
 STORED = ["-", "00", "01", "0102", "0103", "05" * 512, "05" * 511 + "06"]
 ODD_STORE_CALLS = ["take - room 511", "take " + "n" * 256 + " room 511", "take " + "n" * 256, "insert " + "n" * 256 + " 00", "insert a " + "00" * 513]
-ODD_STORES = ["", "newest", "newest 1", "newest 1 2 3", "newest 1 -2", "newer 1 2", "cache 1", "none 1"]
 NO_CALLS = [
     "foo", "accept x", "arrive", "issue 1", "issue 1 2 300.0.0.1 5", "k -1 2", "arrive zz - 1.2.3.4 1 1", "retry 1 2", "take",
     "  ", "# c", "issue 18446744073709551616 0 1.2.3.4 0", "arrive - - 1.2.3.4 65536 0", "issue 01 2 1.2.3.4 5",
@@ -34,12 +33,16 @@ NO_CALLS = [
     "take a room 0600", "accept ", " accept", "accept\t", "accept\0", "accept\r", "\r", "Accept", "\ufeffaccept", "take \u00e9",
     "open", "open 4", "open x", "open 0 0", "open 00", "validate 4", "receive 0", "receive 4 1", "receive 0 -1", "receive 0 18446744073709551616",
     "grant 0 0", "grant 0 8 1", "grant 4 0 1", "grant 0 0 4294967296", "spend 0", "spend 0 8 1", "spend 0 0 +1", "close -", "close 1 ",
-    "accept\x0baccept", "accept\x85", "accept\u2028accept", "k 1 " + "9" * 5000, " " * 5000, "",
+    "accept\x0baccept", "accept\x85", "accept\u2028accept", "k half", "k half 1", "k half 1 2 3", "k half half 1 2",
+    "k 1 half", "k half 01 1", "k half 1 4294967296", "k  half 1 1", "k halves 1 2", "half 1 2", "log half 1 2", "k 1 " + "9" * 5000, " " * 5000, "",
 ]
 NO_TEXTS = [
     b"\xff", b"accept \xc3", b"# \xff", b"#\xc3(", b"take \xed\xa0\x80", b"take \xf4\x90\x80\x80", b"take \xc0\x80", b"\x80accept",
     b"\xfe\xff\0a\0c", b"insert \xe9 00",
 ]
+ODD_STORES = ["", "store newest", "store newest 1", "store newest 1 2 3", "store newest 1 -2", "store newer 1 2", "store cache 1", "store none 1"]
+ODD_LOGS = ["", "log half 1000", "log half 1000 half", "log half 1 2 3", "log half 4294967296 1", "log halves 1 2", "log"]
+COUNTED = [0, 1, 3, 23, 24, 93, 1000, 10_485_760, 2**31, 2**32 - 1]
 LONG_LINES = [(b"#", 0), (b"#", 9), (b"foo ", 0), (b"foo ", 1), (b"foo ", 2), (b"foo ", 3), (b"\xff", 0), (b"\xff", 5_000_000), (b" ", 1)]
 
 
@@ -48,6 +51,7 @@ class Script:
 
     KINDS = ["issue", "arrive", "retry", "end", "store", "path", "k", "none"]
     WEIGHTS = [30, 40, 15, 8, 10, 2, 1, 4], [5, 5, 2, 2, 80, 2, 1, 4], [5, 8, 1, 8, 1, 80, 1, 2]
+    odd_logs, odd_stores = ODD_LOGS, ODD_STORES
 
     def __init__(self, seed, calls):
         self.random, self.calls = random.Random(seed), calls
@@ -128,7 +132,11 @@ class Script:
             return self.store_call()
         if kind == "path":
             return self.path_call()
-        return self.pick("k 1000 10", "k 0 0", "k 4294967295 1") if kind == "k" else self.no_call()
+        return self.hash_count() if kind == "k" else self.no_call()
+
+    def hash_count(self):
+        budget, hits = (self.pick(*COUNTED, self.random.getrandbits(32 - self.random.randrange(32))) for _ in range(2))
+        return f"k {self.pick('', 'half ')}{budget} {hits}"
 
     def no_call(self):
         if self.chance(0.005):
@@ -146,10 +154,6 @@ class Script:
 
     def cache(self):
         return self.pick("cache", "newest")
-
-    def odd_stores(self):
-        if self.chance(0.1):
-            yield "store " + self.pick(*ODD_STORES)
 
     def path_call(self):
         kind = self.random.choices(["open", "validate", "receive", "grant", "spend", "close"], [12, 1, 15, 40, 40, 6])[0]
@@ -170,7 +174,8 @@ class Script:
         k = self.pick(1, 3, 64)
         return self.pick(
             "none", f"set {self.pick(0, 1, 2, 4, 4, 30, 30)}", f"bloom {self.pick(0, 16, 64, 200)} {k}",
-            f"turning {self.pick(0, 47, 48, 112, 128, 1000, 16_777_217)} {k}", f"expected {self.pick(1000, 4000)} {self.pick(100, 1000)}")
+            f"turning {self.pick(0, 47, 48, 112, 128, 1000, 16_777_217)} {k}", f"expected {self.pick(1000, 4000)} {self.pick(100, 1000)}",
+            f"half {self.pick('23 1', '24 1', '93 4', '94 4', '1000 100', '1001 1000', '4000 1000', '16777217 1000000')}")
 
     def head(self):
         yield self.pick("# a script", "", "no scheme")
@@ -178,9 +183,12 @@ class Script:
         secret = self.random.randbytes(32 if ccm else 16)
         self.scheme = (Ccm if ccm else Bench)(secret)
         yield f"scheme {'ccm' if ccm else 'bench'} {secret.hex()}"
+        if self.odd_logs:
+            yield self.pick(*self.odd_logs)
         yield "log " + self.log()
         yield f"gate {self.retry} {self.validation}"
-        yield from self.odd_stores()
+        if self.odd_stores:
+            yield self.pick(*self.odd_stores)
         yield "store " + self.store()
 
     def line(self, said):

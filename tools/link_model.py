@@ -187,8 +187,8 @@ class Turning:
         self.held, self.over = {}, False
 
 
-def hash_count(budget, hits):
-    ratio = float(budget * 8) / float(max(hits, 1)) * math.log(2)
+def hash_count(bits, hits):
+    ratio = float(bits) / float(max(hits, 1)) * math.log(2)
     whole = math.floor(ratio)
     return max(1, min(whole + (ratio - whole >= 0.5), 0xFFFFFFFF))
 
@@ -491,10 +491,15 @@ class Words:
             raise Bad(f"no such {word}")
         return kind
 
+    def skip(self, word):
+        if self.words[:1] != [word]:
+            return False
+        del self.words[0]
+        return True
+
     def length(self, word, usual):
-        if not self.words or self.words[0] != word:
+        if not self.skip(word):
             return usual
-        self.words.pop(0)
         length = self.number(32)
         if length > MOST:
             raise Bad("a buffer too long")
@@ -509,7 +514,7 @@ def read_scheme(w):
 
 
 def read_log(w):
-    kind = w.head("log", "the log comes next", ("none", "set", "bloom", "turning", "expected"))
+    kind = w.head("log", "the log comes next", ("none", "set", "bloom", "turning", "expected", "half"))
     numbers = [w.number(32) for _ in range({"none": 0, "set": 1}.get(kind, 2))]
     w.end()
 
@@ -520,8 +525,11 @@ def read_log(w):
             return TwoGenerations(ExactSet(*numbers), ExactSet(*numbers)), f"log set sure {numbers[0]}"
         if kind == "bloom":
             return TwoGenerations(Bloom(*numbers), Bloom(*numbers)), "log bloom sure 0"
-        budget, k = numbers[0], numbers[1] if kind == "turning" else hash_count(*numbers)
-        told = "log turning" if kind == "turning" else f"log expected k {k}"
+        budget, k = numbers
+        told = f"log {kind}"
+        if kind != "turning":
+            k = hash_count(budget * (4 if kind == "half" else 8), numbers[1])
+            told += f" k {k}"
         return TwoGenerations(Turning(budget, k), Turning(budget, k)), f"{told} sure {sure_count(budget)}"
     return make
 
@@ -621,9 +629,10 @@ class Session:
             token = self.store.take(*args)
             return "none" if token is None else f"taken {shown(token)}"
         if command == "k":
-            args = [w.number(32), w.number(32)]
+            bits = 4 if w.skip("half") else 8
+            budget, hits = w.number(32), w.number(32)
             w.end()
-            return f"k {hash_count(*args)}"
+            return f"k {hash_count(budget * bits, hits)}"
         if command in ("open", "validate", "receive", "grant", "spend", "close"):
             return self.path_call(command, w)
         ends = {"accept": "accepted", "refuse": "refused slip", "ignore": "ignored"}

@@ -17,7 +17,7 @@ mod tests;
 mod words;
 
 pub use bloom::{BloomFilter, MAX_HASHES};
-pub use hash_count::optimal_k_num;
+pub use hash_count::{half_the_budget_has_half_the_bits, optimal_k_num, optimal_k_num_by_half};
 pub use laws::{
     a_call_stores_as_often_as_it_changes, a_vec_keeps_its_capacity,
     bloom_filters_answer_by_what_they_recorded,

@@ -1,5 +1,5 @@
 use super::*;
-use crate::hash_counts::HASH_COUNTS;
+use crate::hash_counts::{HASH_COUNTS, HASH_COUNTS_BY_HALF};
 use answers::{FilterCause, Refusal};
 use filter::{ExactSet, Filter, ListingFilter, Places, TurningFilter};
 use std::alloc::Global;
@@ -166,6 +166,16 @@ fn hash_counts_of_the_rust(rt: HostRuntime) -> Result<(), Fail> {
     assert_eq!(rt; optimal_k_num(10_485_760, 1_000_000), 58);
     for row in HASH_COUNTS.iter() {
         assert_eq!(rt; optimal_k_num(row[0], row[1]), row[2]);
+    }
+    Ok(())
+}
+
+#[test]
+fn hash_counts_by_half(rt: HostRuntime) -> Result<(), Fail> {
+    assert_eq!(rt; optimal_k_num_by_half(10_485_760, 1_000_000), 29);
+    assert_eq!(rt; optimal_k_num_by_half(3, 2), 4);
+    for (row, &k) in HASH_COUNTS.iter().zip(HASH_COUNTS_BY_HALF.iter()) {
+        assert_eq!(rt; optimal_k_num_by_half(row[0], row[1]), k);
     }
     Ok(())
 }

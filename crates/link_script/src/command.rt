@@ -91,6 +91,7 @@ pub(crate) enum Command<'a> {
     Take(Take<'a>),
     Path(PathCall),
     HashCount { budget: u32, hits: u32 },
+    HalfHashCount { budget: u32, hits: u32 },
 }
 
 // The fields of a struct are read in the order in which it has them, which is that of the words.
@@ -197,9 +198,14 @@ fn read_path_call(word: &str, words: &mut Words<'_>) -> Result<Option<PathCall>,
 }
 
 fn read_hash_count<'a>(words: &mut Words<'a>) -> Result<Command<'a>, Bad> {
+    let half = words.skip("half");
     let budget = words.number()?;
     let hits = words.number()?;
-    Ok(Command::HashCount { budget, hits })
+    Ok(if half {
+        Command::HalfHashCount { budget, hits }
+    } else {
+        Command::HashCount { budget, hits }
+    })
 }
 
 // The call that a line makes.

@@ -49,6 +49,7 @@ pub(crate) enum LogHead {
     Bloom { budget: u32, k: u32 },
     Turning { budget: u32, k: u32 },
     Expected { budget: u32, hits: u32 },
+    Half { budget: u32, hits: u32 },
 }
 
 impl Head for LogHead {
@@ -71,6 +72,10 @@ impl Head for LogHead {
                 k: words.number()?,
             },
             "expected" => LogHead::Expected {
+                budget: words.number()?,
+                hits: words.number()?,
+            },
+            "half" => LogHead::Half {
                 budget: words.number()?,
                 hits: words.number()?,
             },

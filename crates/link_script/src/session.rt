@@ -6,7 +6,7 @@ use crate::command::{Arrive, Command, End, Insert, Issue, PathCall, Retry, Take}
 use crate::desk::{Desk, Unmade};
 use crate::words::{Bad, MOST};
 use answers::Refused;
-use bloom::optimal_k_num;
+use bloom::{optimal_k_num, optimal_k_num_by_half};
 use gate::{Accepted, Arrived, Gate, Slip};
 use sealing::{Nonce, SealingScheme};
 use std::{io, mem};
@@ -236,6 +236,10 @@ impl<S: SealingScheme, L: TokenLog, T: TokenStore> Session<'_, S, L, T> {
             Command::HashCount { budget, hits } => println!(rt;
                 "k {}",
                 optimal_k_num(budget, hits)
+            ),
+            Command::HalfHashCount { budget, hits } => println!(rt;
+                "k {}",
+                optimal_k_num_by_half(budget, hits)
             ),
         }
     }

@@ -6,7 +6,9 @@ use crate::script::Script;
 use crate::session::Session;
 use crate::words::MOST;
 use answers::{Refusal, Refused};
-use bloom::{BloomFilter, MAX_BUDGET, allocate_words, optimal_k_num, sure_count};
+use bloom::{
+    BloomFilter, MAX_BUDGET, allocate_words, optimal_k_num, optimal_k_num_by_half, sure_count,
+};
 use ccm::CcmScheme;
 use filter::{ExactSet, Places};
 use gate::Gate;
@@ -101,9 +103,28 @@ fn bloom(heap: Global, budget: u32, k: u32) -> Result<BloomFilter<Vec<u64>>, Sto
     Ok(BloomFilter::new(budget, k, words)?)
 }
 
+// Memory for a log from a budget.
+fn memory(heap: Global, budget: u32) -> Result<LogMemory, AllocError> {
+    LogMemory::allocate(heap, budget.min(MAX_BUDGET))
+}
+
 fn turning(heap: Global, budget: u32, k: u32) -> Result<BloomTokenLog, Stop> {
-    let memory = LogMemory::allocate(heap, budget.min(MAX_BUDGET))?;
-    Ok(BloomTokenLog::with_hashes(budget, k, memory)?)
+    Ok(BloomTokenLog::with_hashes(budget, k, memory(heap, budget)?)?)
+}
+
+fn expected(heap: Global, budget: u32, hits: u32) -> Result<BloomTokenLog, Stop> {
+    let memory = memory(heap, budget)?;
+    Ok(BloomTokenLog::with_expected_hits(budget, hits, memory)?)
+}
+
+fn half(heap: Global, budget: u32, hits: u32) -> Result<BloomTokenLog, Stop> {
+    let memory = memory(heap, budget)?;
+    Ok(BloomTokenLog::with_expected_hits_by_half(budget, hits, memory)?)
+}
+
+// Tells what a log counted, and its sure count.
+fn print_counted(rt: &impl Print, log: &str, k: u32, budget: u32) -> io::Result<()> {
+    println!(rt; "log {log} k {k} sure {}", sure_count(budget))
 }
 
 fn with_log<S: SealingScheme + Drop>(
@@ -133,9 +154,13 @@ fn with_log<S: SealingScheme + Drop>(
             with_gate(rt, script, scheme, log)
         }
         Some(LogHead::Expected { budget, hits }) => {
-            let k = optimal_k_num(budget, hits);
-            let log = turning(heap, budget, k)?;
-            println!(rt; "log expected k {k} sure {}", sure_count(budget))?;
+            let log = expected(heap, budget, hits)?;
+            print_counted(rt, "expected", optimal_k_num(budget, hits), budget)?;
+            with_gate(rt, script, scheme, log)
+        }
+        Some(LogHead::Half { budget, hits }) => {
+            let log = half(heap, budget, hits)?;
+            print_counted(rt, "half", optimal_k_num_by_half(budget, hits), budget)?;
             with_gate(rt, script, scheme, log)
         }
         None => Ok(()),

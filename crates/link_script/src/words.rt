@@ -120,13 +120,21 @@ impl<'a> Words<'a> {
         ip.ok_or(Bad::Line("not an IP"))
     }
 
+    // Passes over the next word if it is this one, and tells whether it was.
+    pub(crate) fn skip(&mut self, word: &str) -> bool {
+        let mut ahead = *self;
+        let found = ahead.next() == Ok(word);
+        if found {
+            *self = ahead;
+        }
+        found
+    }
+
     // The length of a buffer after its word, or the usual one where the word is not there.
     pub(crate) fn length(&mut self, word: &str, usual: usize) -> Result<usize, Bad> {
-        let mut ahead = *self;
-        if ahead.next() != Ok(word) {
+        if !self.skip(word) {
             return Ok(usual);
         }
-        *self = ahead;
         let length = self.number::<u32>()? as usize;
         if length > MOST {
             return Err(Bad::Line("a buffer too long"));

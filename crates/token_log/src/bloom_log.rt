@@ -1,6 +1,6 @@
 ghost use Rattle.std.specs.Prelude.{◌≡◌, ℕ, ◌*◌, ◌≤◌, true, List, IfOk};
 ghost use Rattle.bloom.specs.Sizes.{half as half_of, fits_hashes, Largest};
-ghost use Rattle.bloom.specs.HashCount.{hash_count};
+ghost use Rattle.bloom.specs.HashCount.{hash_count, hash_count_by_half};
 ghost use Rattle.token_log.specs.Budgets.{suits as suits_for, suits_both, JustSuits, GivesBack, Generation, Within, Budgeted, Makes, MakesUnused};
 ghost use Rattle.token_log.specs.Successions.{Call, Leads};
 
@@ -8,7 +8,7 @@ use crate::{MAX_LIFETIME_NANOS, NANOS_PER_SECOND, TokenLog, TwoGenerationLog};
 use answers::{Refusal, Refused};
 use bloom::{
     BloomFilter, MAX_BUDGET, MAX_HASHES, Words, allocate_words, bloom_words, optimal_k_num,
-    sure_count,
+    optimal_k_num_by_half, sure_count,
 };
 use filter::{ExactSet, Places, TurningFilter};
 use std::alloc::{AllocError, Global};
@@ -158,6 +158,19 @@ impl<W: Words> BloomTokenLog<W> {
         ensures unused { MakesUnused budget result }
     {
         BloomTokenLog::with_hashes(budget, optimal_k_num(budget, hits), memory)
+    }
+
+    /// The same with as many positions as suit the expected hits of one generation, by 4 bits for each byte of the budget, its
+    /// share. Refused by 5 where these are more than 64.
+    pub fn with_expected_hits_by_half(
+        budget: u32,
+        hits: u32,
+        memory: LogMemory<W>,
+    ) -> Result<BloomTokenLog<W>, Refused<LogMemory<W>>>
+        ensures makes { Makes budget (hash_count_by_half budget hits) memory result }
+        ensures unused { MakesUnused budget result }
+    {
+        BloomTokenLog::with_hashes(budget, optimal_k_num_by_half(budget, hits), memory)
     }
 
     /// Takes the log apart: the memory of both generations comes back as it stands, whatever calls were made, and is enough for

@@ -139,6 +139,27 @@ fn refusals_of_budgets(rt: HostRuntime) -> Result<(), Fail> {
     Ok(())
 }
 
+// By half a budget of 23 bytes one hit has 64 positions, by half of 24 it has 67.
+#[test]
+fn positions_by_half(rt: HostRuntime) -> Result<(), Fail> {
+    let memory = LogMemory::allocate(rt.alloc(), 24)?;
+    let Err(back) = BloomTokenLog::with_expected_hits_by_half(24, 1, memory) else {
+        return Err(Fail::new("67 positions"));
+    };
+    assert_eq!(rt; back.refusal, Refusal::HashCount);
+    let Err(back) = BloomTokenLog::with_expected_hits(23, 1, back.back) else {
+        return Err(Fail::new("128 positions"));
+    };
+    assert_eq!(rt; back.refusal, Refusal::HashCount);
+    let Err(back) = BloomTokenLog::with_expected_hits_by_half(MAX_BUDGET + 1, 1_000_000, back.back)
+    else {
+        return Err(Fail::new("a budget too large"));
+    };
+    assert_eq!(rt; back.refusal, Refusal::Capacity);
+    assert!(rt; BloomTokenLog::with_expected_hits_by_half(23, 1, back.back).is_ok());
+    Ok(())
+}
+
 #[test]
 fn defaults(rt: HostRuntime) -> Result<(), Fail> {
     assert_eq!(rt; optimal_k_num(DEFAULT_BUDGET, DEFAULT_HITS), 58);

@@ -2,8 +2,8 @@
 """Runs scripts through the program `link_script` and through quinn-proto's own files, and compares every answer.
 
     QUINN_SRC=/path/to/quinn-proto/src python3 compare/compare.py random FIRST_SEED LAST_SEED CALLS
-    QUINN_SRC=/path/to/quinn-proto/src python3 compare/compare.py all [hash | edges | stores | logs]
-    QUINN_SRC=/path/to/quinn-proto/src python3 compare/compare.py sample
+    QUINN_SRC=/path/to/quinn-proto/src python3 compare/compare.py all [hash | edges | stores | logs | resets]
+    QUINN_SRC=/path/to/quinn-proto/src python3 compare/compare.py sample [resets]
 
 `random` gives each seed two scripts, one of all kinds of calls (tools/link_compare.py says how) and one of arrivals that fill a
 log. `all` goes through short successions of a few calls, all
@@ -23,7 +23,7 @@ sys.path.insert(0, str(HERE.parent / "tools"))
 
 import link_compare
 import link_model
-from link_model import SECOND, Bench, encode
+from link_model import SECOND, Bench, encode, shown
 
 OURS = link_compare.PROGRAM
 RUST = HERE / "target/release/compare"
@@ -82,7 +82,7 @@ class RustScript(link_compare.Script):
     """A random script of what the Rust has too: its logs and its hash count, and lines that are calls."""
 
     odd_logs = odd_stores = ()
-    WEIGHTS = [30, 40, 15, 8, 10, 0, 1, 0], [5, 5, 2, 2, 80, 0, 1, 0]
+    WEIGHTS = [30, 40, 15, 8, 10, 0, 1, 0, 0], [5, 5, 2, 2, 80, 0, 1, 0, 0]
 
     def hash_count(self):
         return self.pick("k 1000 10", "k 0 0", "k 4294967295 1")
@@ -98,6 +98,12 @@ class RustScript(link_compare.Script):
 
     def head(self):
         return itertools.islice(super().head(), 1, None)
+
+    def calls_made(self):
+        """The lines without their ends, once all are answered."""
+        for _ in self.answers():
+            pass
+        return [line.decode().rstrip("\r\n") for line in self.lines]
 
 
 def fills(seed, calls):
@@ -124,10 +130,7 @@ def fills(seed, calls):
 
 def randoms(first, last, calls):
     for seed in range(first, last + 1):
-        script = RustScript(seed, calls)
-        for _ in script.answers():
-            pass
-        yield f"seed {seed}", script.lines
+        yield f"seed {seed}", RustScript(seed, calls).calls_made()
         yield f"seed {seed}, a log filled", fills(seed, calls)
 
 
@@ -194,8 +197,24 @@ def hash_counts():
     yield "hash counts", head() + [f"k {b} {h}" for b, h in itertools.product(values, repeat=2)]
 
 
+def resets():
+    """Tokens of ids of every length under keys of many lengths, and datagrams of every length, whole and damaged."""
+    ids = [bytes(range(1, n + 1)) for n in range(22)]
+    keys = [bytes(range(n)) for n in (0, 1, 16, 31, 32, 33, 63, 64, 65, 131)]
+    lines = head() + [f"reset hmac {shown(key)} {shown(cid)}" for key in keys for cid in ids]
+    lines += [f"reset bench {(key + KEY)[:16].hex()} {shown(cid)}" for key in keys for cid in ids]
+    tokens = [bytes([n]) + KEY[1:] for n in range(6)]
+    for held in range(6):
+        for token in tokens:
+            datagram = KEY * 2 + token
+            lines += [f"datagram {shown(datagram[-n:] if n else b'')}" for n in range(49)]
+            lines += [f"datagram {bytes(b ^ (i == n) << bit for i, b in enumerate(datagram)).hex()}" for n in range(48) for bit in (0, 7)]
+        lines += [f"remember {tokens[held].hex()}"] * 2
+    yield "resets", lines
+
+
 def everything():
-    return itertools.chain(hash_counts(), edges(), stores(5), logs(4))
+    return itertools.chain(hash_counts(), edges(), stores(5), logs(4), resets())
 
 
 # ---- a sample of the Rust's answers
@@ -208,12 +227,18 @@ def answered(lines):
         lines = [line for line, answer in zip(lines, answers) if answer != "-"]
 
 
-def sample():
-    scripts = [s.lines for s in (RustScript(seed, 150) for seed in range(1, 31)) if list(s.answers())]
-    scripts += [fills(seed, 70) for seed in range(1, 16)]
-    scripts += [lines[:4] + random.Random(name).sample(lines[4:], 120) for name, lines in itertools.chain(edges(), stores(3))]
-    scripts += [lines[:304] for _, lines in logs(2)]
-    texts, answers = [], []
+def sampled():
+    yield from (RustScript(seed, 150).calls_made() for seed in range(1, 31))
+    yield from (fills(seed, 70) for seed in range(1, 16))
+    yield from (lines[:4] + random.Random(name).sample(lines[4:], 120) for name, lines in itertools.chain(edges(), stores(3)))
+    yield from (lines[:304] for _, lines in logs(2))
+
+
+def sample(names):
+    """A sample anew; or, with names of families, what is there and a ninth of each of these behind it."""
+    scripts = (lines[:4] + lines[4::9] for _, lines in families(names)) if names else sampled()
+    texts = [(SAMPLE / "scripts").read_text()] if names else []
+    answers = (SAMPLE / "answers").read_text().splitlines() if names else []
     for script in scripts:
         lines, told = answered([line for line in script if line and not line.startswith("#")])
         if len(told) > 4:
@@ -221,7 +246,7 @@ def sample():
             answers += told
     (SAMPLE / "scripts").write_text("end\n".join(texts))
     (SAMPLE / "answers").write_text("\n".join(answers) + "\n")
-    print(f"{len(answers)} answers of {len(texts)} scripts")
+    print(f"{len(answers)} answers")
 
 
 def families(names):
@@ -232,7 +257,7 @@ def families(names):
 def main(kind, *numbers):
     subprocess.run(["cargo", "build", "--release", "--offline", "--quiet"], cwd=HERE, check=True)
     if kind == "sample":
-        return sample()
+        return sample(numbers)
     count = Count()
     for name, lines in families(numbers) if kind == "all" else randoms(*map(int, numbers)):
         if not count.compare(name, lines):

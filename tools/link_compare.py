@@ -25,7 +25,13 @@ NO_TOKENS = ["-", "00" * 15, "00" * 16, "00" * 81, "00" * 82]
 NAMES = ["a", "b", "c", "d", "-", "n" * 255, "n" * 254 + "m"]
 STORED = ["-", "00", "01", "0102", "0103", "05" * 512, "05" * 511 + "06"]
 ODD_STORE_CALLS = ["take - room 511", "take " + "n" * 256 + " room 511", "take " + "n" * 256, "insert " + "n" * 256 + " 00", "insert a " + "00" * 513]
+KEYS = ["-", "00", "4a656665", "aa" * 64, "aa" * 65, "0b" * 131]
+IDS = ["-", "00", "aabb", "0102030405060708", "07" * 19, "07" * 20, "07" * 21, "07" * 300]
+RESETS = ["00" * 16, "00" * 15 + "01", "ff" * 16, "7f" + "ff" * 15, "000102030405060708090a0b0c0d0e0f", "aabbccdd" * 4]
 NO_CALLS = [
+    "reset", "reset hmac", "reset hmac 00", "reset hmac zz 00", "reset hmac 00 0", "reset hmac 00 00 00", "reset hmac 00 00 working 4097", "reset rsa 00 00",
+    "reset bench 00 00", "reset bench - 00", "reset bench " + "00" * 17 + " 00", "remember", "remember -", "remember " + "00" * 15, "remember " + "00" * 17,
+    "remember " + "00" * 16 + " 00", "remember " + "0G" * 16, "datagram", "datagram 0", "datagram 00 00", "datagram " + "AA" * 21,
     "foo", "accept x", "arrive", "issue 1", "issue 1 2 300.0.0.1 5", "k -1 2", "arrive zz - 1.2.3.4 1 1", "retry 1 2", "take",
     "  ", "# c", "issue 18446744073709551616 0 1.2.3.4 0", "arrive - - 1.2.3.4 65536 0", "issue 01 2 1.2.3.4 5",
     "issue +1 2 1.2.3.4 5", "issue 1 2 +1.2.3.4 5", "issue 1 2 001.2.3.4 5", "issue 1 2 1.2.3.4.5 5", "issue 1 2 0.0.0.00 5",
@@ -49,8 +55,9 @@ LONG_LINES = [(b"#", 0), (b"#", 9), (b"foo ", 0), (b"foo ", 1), (b"foo ", 2), (b
 class Script:
     """Lines that depend on the answers so far: `answer` is the newest one, `tokens` are those that were written."""
 
-    KINDS = ["issue", "arrive", "retry", "end", "store", "path", "k", "none"]
-    WEIGHTS = [30, 40, 15, 8, 10, 2, 1, 4], [5, 5, 2, 2, 80, 2, 1, 4], [5, 8, 1, 8, 1, 80, 1, 2]
+    KINDS = ["issue", "arrive", "retry", "end", "store", "path", "k", "reset", "none"]
+    WEIGHTS = (
+        [30, 40, 15, 8, 10, 2, 1, 8, 4], [5, 5, 2, 2, 80, 2, 1, 2, 4], [5, 8, 1, 8, 1, 80, 1, 2, 2], [2, 2, 1, 1, 2, 1, 1, 90, 4])
     odd_logs, odd_stores = ODD_LOGS, ODD_STORES
 
     def __init__(self, seed, calls):
@@ -60,6 +67,7 @@ class Script:
         self.validation = self.pick(0, 1, SECOND - 1, SECOND, 10 * SECOND, 14 * DAY, LONGEST_LIFETIME)
         self.now = self.pick(0, 1000 * SECOND, 1_700_000_000 * SECOND, LAST_CLOCK - 100 * SECOND)
         self.weights = self.pick(*self.WEIGHTS)
+        self.resets, self.resets_used = [], (1, 3, 4, 5, len(RESETS))[seed % 5]
         self.names_used = self.pick(1, 3, len(NAMES))
         self.ends = self.pick([b"\n"], [b"\r\n"], [b"\n", b"\r\n"])
 
@@ -132,6 +140,8 @@ class Script:
             return self.store_call()
         if kind == "path":
             return self.path_call()
+        if kind == "reset":
+            return self.reset_call()
         return self.hash_count() if kind == "k" else self.no_call()
 
     def hash_count(self):
@@ -163,6 +173,27 @@ class Script:
         if kind in ("grant", "spend"):
             return f"{kind} {path} {grant} {self.pick(0, 1, 2, 3, 3, 4, 6, 9, 1200, 1201, 3600, 65_535, 65_536, 2**32 - 1)}"
         return f"{kind} {path}"
+
+    def reset_call(self):
+        kind = self.random.choices(["reset", "remember", "datagram"], [2, 1, 2])[0]
+        if kind == "reset":
+            key = f"bench {self.random.randbytes(16).hex()}" if self.chance(0.4) else f"hmac {self.pick(*KEYS, self.random.randbytes(32).hex())}"
+            cid = self.pick(*IDS) if self.chance(0.5) else self.random.randbytes(self.random.randrange(1, 21)).hex()
+            return f"reset {key} {cid}{self.room('working', 96, 159, 160, 161, 4096)}"
+        token = self.pick(*self.resets[-3:], *RESETS[: self.resets_used])
+        if kind == "remember":
+            return f"remember {token}"
+        datagram = self.random.randbytes(self.pick(0, 4, 5, 5, 6, 21, 1200)) + bytes.fromhex(token)
+        way = self.pick("whole", "whole", "turned", "cut", "longer", "front")
+        if way == "turned":
+            datagram = bytes(b ^ (i == len(datagram) - self.random.randrange(1, 17)) << self.random.randrange(8) for i, b in enumerate(datagram))
+        elif way == "cut":
+            datagram = datagram[: self.random.randrange(len(datagram))]
+        elif way == "longer":
+            datagram += b"\0"
+        elif way == "front":
+            datagram = datagram[-16:] + datagram[:-16]
+        return f"datagram {datagram.hex() or '-'}"
 
     def store(self):
         if self.chance(0.2):
@@ -204,6 +235,8 @@ class Script:
             yield self.line(self.call())
             if self.answer.startswith("token "):
                 self.tokens.append(self.answer[6:])
+            if self.answer.startswith("reset "):
+                self.resets.append(self.answer[6:])
 
     def text(self):
         """All lines, the last one with an end or without."""
@@ -219,7 +252,7 @@ def kind_of(answer):
     words = answer.split()
     if words[0] == "error":
         return " ".join(["error", *words[2:]])
-    return " ".join(words[:2]) if words[0] in ("validated", "unvalidated", "rejected", "refused") else words[0]
+    return " ".join(words[:2]) if words[0] in ("validated", "unvalidated", "rejected", "refused", "a", "no") else words[0]
 
 
 def main(first, last, calls):

@@ -18,6 +18,7 @@ MOST = 4096
 MOST_PLACES = 1_048_576
 LENT_PATHS, PATHS, GRANTS = 3, 4, 8
 LONGEST_LINE = 4_194_304
+RESET_PLACES = 4
 
 
 class Refused(Exception):
@@ -84,9 +85,14 @@ class Bench:
     def __init__(self, key):
         self.key = key
 
+    def checks(self, nonce, content):
+        return bytes((self.key[j] + nonce[j] + sum(content[j::16])) % 256 for j in range(16))
+
     def seal(self, nonce, content):
-        checks = bytes((self.key[j] + nonce[j] + sum(content[j::16])) % 256 for j in range(16))
-        return content + checks
+        return content + self.checks(nonce, content)
+
+    def signature(self, message):
+        return self.checks(bytes(16), message)
 
     def open(self, nonce, sealed):
         if not 16 <= len(sealed) <= 80 or self.seal(nonce, sealed[:-16]) != sealed:
@@ -411,6 +417,29 @@ class Desk:
         del self.paths[number]
 
 
+# ---- stateless resets
+def reset_token(key, cid, working):
+    """The first 16 bytes of a signature over a connection id."""
+    if working < 160:
+        raise Refused(1)
+    if len(cid) > 20:
+        raise Refused(2)
+    return key(cid)[:16]
+
+
+class ResetTable:
+    def __init__(self, places):
+        self.places, self.tokens = places, set()
+
+    def remember(self, token):
+        if token not in self.tokens and len(self.tokens) == self.places:
+            raise Refused(44)
+        self.tokens.add(token)
+
+    def is_reset(self, datagram):
+        return len(datagram) > 20 and datagram[-16:] in self.tokens
+
+
 # ---- scripts
 def shown(data):
     return data.hex() or "-"
@@ -554,9 +583,20 @@ def read_store(w):
     return lambda _: ({"none": NoneStore, "cache": Cache, "newest": Newest}[kind](*limits), f"store {kind}")
 
 
+def read_reset_key(w):
+    kind = w.next()
+    if kind == "hmac":
+        key = w.bytes()
+        return lambda cid: hmac.new(key, cid, hashlib.sha256).digest()
+    if kind == "bench":
+        return Bench(w.array(16)).signature
+    raise Bad("no such key")
+
+
 class Session:
     def __init__(self, gate, store):
         self.gate, self.store, self.slip, self.desk, self.accepted = gate, store, None, Desk(), None
+        self.resets = ResetTable(RESET_PLACES)
 
     def end(self, word):
         """Spends the slip."""
@@ -628,6 +668,19 @@ class Session:
             w.end()
             token = self.store.take(*args)
             return "none" if token is None else f"taken {shown(token)}"
+        if command == "reset":
+            args = [read_reset_key(w), w.bytes(), w.length("working", 160)]
+            w.end()
+            return f"reset {reset_token(*args).hex()}"
+        if command == "remember":
+            token = w.array(16)
+            w.end()
+            self.resets.remember(token)
+            return "remembered"
+        if command == "datagram":
+            datagram = w.bytes()
+            w.end()
+            return "a reset" if self.resets.is_reset(datagram) else "no reset"
         if command == "k":
             bits = 4 if w.skip("half") else 8
             budget, hits = w.number(32), w.number(32)

@@ -1,6 +1,6 @@
 #!/usr/bin/env python3
 """Writes the vectors that the program `vectors` runs: published ones, each held to an independent implementation first,
-and a list for CCM that is made with one.
+and lists for CCM and for reset tokens that are made with one.
 
 Independent are hashlib and hmac of Python, and AES, HKDF and AES-CCM of the package `cryptography` (OpenSSL).
 
@@ -107,6 +107,17 @@ def ccm():
         line("ccm", secret, nonce, content, AESCCM(key, tag_length=16).encrypt(bytes(12), content, None))
 
 
+def reset():
+    print("# Reset tokens: the key's kind, key, connection id, token, for each length of an id from 0 to 20; made with Python's hmac and")
+    print("# with plain sums from bytes that SHA-256 makes of a label and the length")
+    for n in range(21):
+        def drawn(label, size):
+            return hashlib.sha256(f"reset {label} {n}".encode()).digest()[:size]
+        secret, key, cid = drawn("secret", 32), drawn("key", 16), drawn("id", n)
+        line("reset hmac", secret, cid, hmac.new(secret, cid, hashlib.sha256).digest()[:16])
+        line("reset bench", key, cid, bytes((key[j] + sum(cid[j::16])) % 256 for j in range(16)))
+
+
 print("# Made by tools/vectors.py.")
-for group in (sha256, hmac_sha256, expand, aes256, ccm):
+for group in (sha256, hmac_sha256, expand, aes256, ccm, reset):
     group()

@@ -1,7 +1,7 @@
-//! Our two sealing schemes, as keys for quinn-proto's tokens.
+//! Our two sealing schemes and our two signing keys, as keys for quinn-proto's tokens.
 use crate::aes::{substitution, Aes256};
 use crate::ccm;
-use crate::crypto::{AeadKey, CryptoError, HandshakeTokenKey};
+use crate::crypto::{AeadKey, CryptoError, HandshakeTokenKey, HmacKey};
 use crate::sha256::hmac_sha256;
 
 /// The scheme for the bench: the content, and 16 check bytes that anybody can make.
@@ -37,6 +37,34 @@ impl Ccm {
             secret,
             substitution: substitution(),
         }
+    }
+}
+
+/// HMAC-SHA-256 under a key of any length.
+pub(crate) struct Hmac(pub(crate) Vec<u8>);
+
+impl HmacKey for Hmac {
+    fn sign(&self, data: &[u8], out: &mut [u8]) {
+        out.copy_from_slice(&hmac_sha256(&self.0, data));
+    }
+
+    fn signature_len(&self) -> usize {
+        32
+    }
+}
+
+/// The check bytes under a nonce of zeros.
+impl HmacKey for Bench {
+    fn sign(&self, data: &[u8], out: &mut [u8]) {
+        let key = BenchKey {
+            key: self.0,
+            nonce: [0; 16],
+        };
+        out.copy_from_slice(&key.checks(data));
+    }
+
+    fn signature_len(&self) -> usize {
+        16
     }
 }
 

@@ -1,14 +1,14 @@
 //! The script of `link_script`, as docs/RULES.md states it. Only good lines are meant: what cannot be read is answered `-`, as
 //! is every call that the part refuses and the Rust has no rule for.
 use crate::bloom_token_log::{optimal_k_num, BloomTokenLog};
-use crate::crypto::HandshakeTokenKey;
+use crate::crypto::{HandshakeTokenKey, HmacKey};
 use crate::packet::InitialHeader;
-use crate::schemes::{Bench, Ccm};
+use crate::schemes::{Bench, Ccm, Hmac};
 use crate::token::{IncomingToken, NoneTokenLog, NoneTokenStore, Token, TokenPayload, TokenStore};
 use crate::token_memory_cache::TokenMemoryCache;
 use crate::{
-    Bytes, ConnectionId, Duration, Rng, ServerConfig, SystemTime, TimeSource, TokenLog,
-    ValidationTokenConfig, MAX_CID_SIZE, UNIX_EPOCH,
+    Bytes, ConnectionId, Duration, ResetToken, Rng, ServerConfig, SystemTime, TimeSource, TokenLog,
+    ValidationTokenConfig, MAX_CID_SIZE, RESET_TOKEN_SIZE, UNIX_EPOCH,
 };
 use std::collections::HashSet;
 use std::io::Write;
@@ -19,6 +19,8 @@ use std::sync::Arc;
 
 const LAST_CLOCK: u64 = 4_294_967_295_999_999_999;
 const LONGEST: u64 = 1_073_741_824_000_000_000;
+const RESET_PLACES: usize = 4;
+const MIN_RESET_LEN: usize = 21;
 
 /// The clock reading of the call that is made.
 struct Now(Arc<AtomicU64>);
@@ -53,6 +55,7 @@ struct Session {
     store: Box<dyn TokenStore>,
     clock: Arc<AtomicU64>,
     open: Option<Open>,
+    resets: Vec<ResetToken>,
 }
 
 struct Words<'a>(Vec<&'a str>);
@@ -252,6 +255,43 @@ impl Session {
         )
     }
 
+    fn reset(&self, words: &mut Words) -> Option<String> {
+        let kind = words.next()?;
+        let key = words.bytes()?;
+        let key: Box<dyn HmacKey> = match kind {
+            "hmac" => Box::new(Hmac(key)),
+            _ => Box::new(Bench(key.try_into().ok()?)),
+        };
+        let (id, working) = (words.bytes()?, words.length("working", 160)?);
+        if working < 160 || id.len() > MAX_CID_SIZE {
+            return None;
+        }
+        let token = ResetToken::new(&*key, ConnectionId::new(&id));
+        Some(format!("reset {}", shown(&token)))
+    }
+
+    /// The Rust's table stands in a file that is not at hand. This one is ours; that two tokens are equal is told by the Rust.
+    fn remember(&mut self, words: &mut Words) -> Option<String> {
+        let token: [u8; RESET_TOKEN_SIZE] = words.bytes()?.try_into().ok()?;
+        let token = ResetToken::from(token);
+        if !self.resets.contains(&token) {
+            if self.resets.len() == RESET_PLACES {
+                return None;
+            }
+            self.resets.push(token);
+        }
+        Some("remembered".into())
+    }
+
+    fn datagram(&self, words: &mut Words) -> Option<String> {
+        let datagram = words.bytes()?;
+        let is_reset = datagram.len() >= MIN_RESET_LEN
+            && datagram
+                .last_chunk::<RESET_TOKEN_SIZE>()
+                .is_some_and(|end| self.resets.contains(&ResetToken::from(*end)));
+        Some(if is_reset { "a reset" } else { "no reset" }.into())
+    }
+
     fn call(&mut self, line: &str) -> Option<String> {
         let mut words = Words(line.split(' ').collect());
         match words.next()? {
@@ -263,6 +303,9 @@ impl Session {
             "ignore" => self.spend("ignored"),
             "insert" => self.insert(&mut words),
             "take" => self.take(&mut words),
+            "reset" => self.reset(&mut words),
+            "remember" => self.remember(&mut words),
+            "datagram" => self.datagram(&mut words),
             "k" => Some(format!(
                 "k {}",
                 optimal_k_num(
@@ -362,6 +405,7 @@ impl Head {
             store,
             clock,
             open: None,
+            resets: Vec::new(),
         })
     }
 }

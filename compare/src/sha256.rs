@@ -64,10 +64,14 @@ pub(crate) fn sha256(message: &[u8]) -> [u8; 32] {
     digest
 }
 
-/// A key of at most 64 bytes.
+/// A key of more than 64 bytes stands for its digest.
 pub(crate) fn hmac_sha256(key: &[u8], message: &[u8]) -> [u8; 32] {
     let mut padded = [0; 64];
-    padded[..key.len()].copy_from_slice(key);
+    if key.len() > 64 {
+        padded[..32].copy_from_slice(&sha256(key));
+    } else {
+        padded[..key.len()].copy_from_slice(key);
+    }
     let inner = [&padded.map(|b| b ^ 0x36)[..], message].concat();
     let outer = [&padded.map(|b| b ^ 0x5c)[..], &sha256(&inner)].concat();
     sha256(&outer)

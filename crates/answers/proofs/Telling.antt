@@ -23,7 +23,7 @@ abbrev refusals : Listed Refusal
 refusals =
     entry 1 refusal.SmallBuffer (entry 2 refusal.LongConnectionId (entry 3 refusal.LateClock (entry 4 refusal.LongLifetime
     (entry 5 refusal.HashCount (entry 6 refusal.LongEntry (entry 7 refusal.Capacity (entry 8 refusal.AlreadyRetried
-    (entry 41 refusal.BeyondAllowance (entry 42 refusal.NoPath (entry 43 refusal.GrantsOpen none))))))))))
+    (entry 41 refusal.BeyondAllowance (entry 42 refusal.NoPath (entry 43 refusal.GrantsOpen (entry 44 refusal.ResetTableFull none)))))))))))
 
 abbrev causes : Listed Cause
 causes =
@@ -49,6 +49,7 @@ refusal_found refusal.AlreadyRetried = refl
 refusal_found refusal.BeyondAllowance = refl
 refusal_found refusal.NoPath = refl
 refusal_found refusal.GrantsOpen = refl
+refusal_found refusal.ResetTableFull = refl
 
 log_cause_found : (a : LogCause) → find log_causes (log_cause_number a) ≡ Some a
 log_cause_found log_cause.ZeroLifetime = refl

@@ -21,6 +21,7 @@ refusal_number refusal.AlreadyRetried = 8
 refusal_number refusal.BeyondAllowance = 41
 refusal_number refusal.NoPath = 42
 refusal_number refusal.GrantsOpen = 43
+refusal_number refusal.ResetTableFull = 44
 
 abbrev pub cause_number : Cause → ℕ
 cause_number cause.ZeroLifetime = 11

@@ -43,6 +43,9 @@ pub enum Refusal {
     /// A path with open grants is to be closed.
     #[error("refused 43: the path has open grants")]
     GrantsOpen = 43,
+    /// Another reset token for a table that has no place for it.
+    #[error("refused 44: the table of reset tokens is full")]
+    ResetTableFull = 44,
 }
 
 /// Why a filter does not record a fingerprint.
@@ -256,7 +259,7 @@ pub fn cloned_answers_are_the_same()
 {}
 
 // The refusals in the order of their numbers, each cast.
-const CASTS: [u8; 11] = [
+const CASTS: [u8; 12] = [
     Refusal::SmallBuffer as u8,
     Refusal::LongConnectionId as u8,
     Refusal::LateClock as u8,
@@ -268,11 +271,12 @@ const CASTS: [u8; 11] = [
     Refusal::BeyondAllowance as u8,
     Refusal::NoPath as u8,
     Refusal::GrantsOpen as u8,
+    Refusal::ResetTableFull as u8,
 ];
 
 /// A refusal that is cast to a number is its number.
 pub fn casts_are_numbers()
-    ensures { CASTS ≡ 1 ∷ 2 ∷ 3 ∷ 4 ∷ 5 ∷ 6 ∷ 7 ∷ 8 ∷ 41 ∷ 42 ∷ 43 ∷ [] }
+    ensures { CASTS ≡ 1 ∷ 2 ∷ 3 ∷ 4 ∷ 5 ∷ 6 ∷ 7 ∷ 8 ∷ 41 ∷ 42 ∷ 43 ∷ 44 ∷ [] }
 {}
 
 /// A number tells the refusal or the cause it stands for, and no number stands for one of each.

@@ -2,6 +2,8 @@
 use crate::desk::{GRANTS, PATHS};
 use crate::words::{Bad, Words};
 use sealing::{MAX_TOKEN_LEN, WORKING_LEN};
+use sha256::HmacKey;
+use stateless_reset::{BenchKey, RESET_WORKING_LEN, ResetToken};
 use token_store::MAX_STORED_LEN;
 use wire::{IpAddr, SocketAddr};
 
@@ -81,6 +83,20 @@ pub(crate) enum PathCall {
     },
 }
 
+// The keys that a reset token can be made by.
+#[derive(Clone, Copy)]
+pub(crate) enum ResetKey {
+    Hmac(HmacKey),
+    Bench(BenchKey),
+}
+
+#[derive(Drop)]
+pub(crate) struct Reset {
+    pub(crate) key: ResetKey,
+    pub(crate) id: Vec<u8>,
+    pub(crate) working: usize,
+}
+
 #[derive(Drop)]
 pub(crate) enum Command<'a> {
     Issue(Issue),
@@ -90,6 +106,9 @@ pub(crate) enum Command<'a> {
     Insert(Insert<'a>),
     Take(Take<'a>),
     Path(PathCall),
+    Reset(Reset),
+    Remember(ResetToken),
+    Datagram(Vec<u8>),
     HashCount { budget: u32, hits: u32 },
     HalfHashCount { budget: u32, hits: u32 },
 }
@@ -197,6 +216,22 @@ fn read_path_call(word: &str, words: &mut Words<'_>) -> Result<Option<PathCall>,
     Ok(Some(call))
 }
 
+fn read_reset_key(words: &mut Words<'_>) -> Result<ResetKey, Bad> {
+    match words.next()? {
+        "hmac" => Ok(ResetKey::Hmac(HmacKey::new(&words.bytes()?))),
+        "bench" => Ok(ResetKey::Bench(BenchKey::new(words.array()?))),
+        _ => Err(Bad::Line("no such key")),
+    }
+}
+
+fn read_reset(words: &mut Words<'_>) -> Result<Reset, Bad> {
+    Ok(Reset {
+        key: read_reset_key(words)?,
+        id: words.bytes()?,
+        working: words.length("working", RESET_WORKING_LEN)?,
+    })
+}
+
 fn read_hash_count<'a>(words: &mut Words<'a>) -> Result<Command<'a>, Bad> {
     let half = words.skip("half");
     let budget = words.number()?;
@@ -219,6 +254,9 @@ pub(crate) fn read_call<'a>(mut words: Words<'a>) -> Result<Command<'a>, Bad> {
         "ignore" => Command::Spend(End::Ignore),
         "insert" => Command::Insert(read_insert(&mut words)?),
         "take" => Command::Take(read_take(&mut words)?),
+        "reset" => Command::Reset(read_reset(&mut words)?),
+        "remember" => Command::Remember(ResetToken::from(words.array()?)),
+        "datagram" => Command::Datagram(words.bytes()?),
         "k" => read_hash_count(&mut words)?,
         word => match read_path_call(word, &mut words)? {
             Some(call) => Command::Path(call),

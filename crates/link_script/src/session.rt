@@ -2,23 +2,25 @@
 ghost use Rattle.std.specs.Prelude.{◌≤◌, vec_len};
 
 use crate::answer::{Bytes, print_error, print_refusal, print_verdict};
-use crate::command::{Arrive, Command, End, Insert, Issue, PathCall, Retry, Take};
+use crate::command::{Arrive, Command, End, Insert, Issue, PathCall, Reset, ResetKey, Retry, Take};
 use crate::desk::{Desk, Unmade};
 use crate::words::{Bad, MOST};
-use answers::Refused;
+use answers::{Refusal, Refused};
 use bloom::{optimal_k_num, optimal_k_num_by_half};
 use gate::{Accepted, Arrived, Gate, Slip};
 use sealing::{Nonce, SealingScheme};
+use stateless_reset::{ResetToken, ResetTokenTable};
 use std::{io, mem};
 use token_log::TokenLog;
 use token_store::TokenStore;
 
-// What a script's calls are made on: the gate, the store, the paths, two buffers, the slip that is open, if one is, and the last
-// arrival that was accepted, if no path opened for it.
+// What a script's calls are made on: the gate, the store, the paths, the table of reset tokens, two buffers, the slip that is
+// open, if one is, and the last arrival that was accepted, if no path opened for it.
 pub(crate) struct Session<'a, S, L, T> {
     gate: Gate<S, L>,
     store: T,
     desk: Desk<'a>,
+    resets: ResetTokenTable<'a>,
     slip: Option<Slip>,
     accepted: Option<Accepted>,
     out: Vec<u8>,
@@ -29,6 +31,14 @@ pub(crate) struct Session<'a, S, L, T> {
 fn ignore(slip: Option<Slip>) {
     if let Some(slip) = slip {
         slip.ignore();
+    }
+}
+
+// The reset token of a connection id under either key.
+fn reset_token(key: ResetKey, id: &[u8], working: &mut [u8]) -> Result<ResetToken, Refusal> {
+    match key {
+        ResetKey::Hmac(key) => ResetToken::new(&key, id, working),
+        ResetKey::Bench(key) => ResetToken::new(&key, id, working),
     }
 }
 
@@ -44,6 +54,7 @@ impl<'a, S: SealingScheme + Drop, L: TokenLog + Drop, T: TokenStore + Drop> Sess
         gate: Gate<S, L>,
         store: T,
         desk: Desk<'a>,
+        resets: ResetTokenTable<'a>,
         out: Vec<u8>,
         working: Vec<u8>,
     ) -> Session<'a, S, L, T> {
@@ -51,6 +62,7 @@ impl<'a, S: SealingScheme + Drop, L: TokenLog + Drop, T: TokenStore + Drop> Sess
             gate,
             store,
             desk,
+            resets,
             slip: None,
             accepted: None,
             out,
@@ -64,6 +76,7 @@ impl<'a, S: SealingScheme + Drop, L: TokenLog + Drop, T: TokenStore + Drop> Sess
             gate: _,
             store: _,
             desk,
+            resets: _,
             slip,
             accepted: _,
             out: _,
@@ -218,6 +231,28 @@ impl<S: SealingScheme, L: TokenLog, T: TokenStore> Session<'_, S, L, T> {
         }
     }
 
+    fn reset(&mut self, rt: &impl Print, call: Reset) -> io::Result<()> {
+        let working = cut(&self.working, call.working);
+        match reset_token(call.key, &call.id, &mut self.working[0..working]) {
+            Ok(token) => println!(rt; "reset {}", Bytes(token.as_bytes())),
+            Err(refusal) => print_refusal(rt, refusal),
+        }
+    }
+
+    fn remember(&mut self, rt: &impl Print, token: ResetToken) -> io::Result<()> {
+        match self.resets.remember(token) {
+            Ok(()) => println!(rt; "remembered"),
+            Err(refusal) => print_refusal(rt, refusal),
+        }
+    }
+
+    fn datagram(&self, rt: &impl Print, datagram: &[u8]) -> io::Result<()> {
+        if self.resets.is_reset(datagram) {
+            return println!(rt; "a reset");
+        }
+        println!(rt; "no reset")
+    }
+
     // Makes the call of a line, and prints what it answers.
     pub(crate) fn call(
         &mut self,
@@ -233,6 +268,9 @@ impl<S: SealingScheme, L: TokenLog, T: TokenStore> Session<'_, S, L, T> {
             Command::Insert(call) => self.insert(rt, call),
             Command::Take(call) => self.take(rt, call),
             Command::Path(call) => self.path(rt, number, call),
+            Command::Reset(call) => self.reset(rt, call),
+            Command::Remember(token) => self.remember(rt, token),
+            Command::Datagram(datagram) => self.datagram(rt, &datagram),
             Command::HashCount { budget, hits } => println!(rt;
                 "k {}",
                 optimal_k_num(budget, hits)

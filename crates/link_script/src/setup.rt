@@ -15,6 +15,7 @@ use gate::Gate;
 use path_table::PathTable;
 use record_pool::Record;
 use sealing::{BenchScheme, SealingScheme};
+use stateless_reset::{RESET_TOKEN_SIZE, ResetToken, ResetTokenTable};
 use std::alloc::{AllocError, Global};
 use std::io;
 use std::io::BufRead;
@@ -27,6 +28,9 @@ use token_store::{NoneTokenStore, TokenStore};
 
 // The most places that the program has memory for: a larger set is refused.
 const MOST_PLACES: u32 = 1_048_576;
+
+// How many reset tokens the program has places for.
+const RESET_PLACES: usize = 4;
 
 // Why a run ends before its script does: what the head asks for is refused, or the program fails.
 // Its conversions are written out: those from two errors go on into a third, which no derive does.
@@ -229,9 +233,12 @@ fn run_session<S: SealingScheme + Drop, L: TokenLog + Drop, T: TokenStore + Drop
 ) -> Result<(), Stop> {
     let out = vec![in script.heap; 0; MOST]?;
     let working = vec![in script.heap; 0; MOST]?;
+    let blank = Record::new(ResetToken::from([0; RESET_TOKEN_SIZE]));
+    let mut places = [blank; RESET_PLACES];
+    let resets = ResetTokenTable::new(&mut places)?;
     let mut records = [Record::new(None); LENT_PATHS];
     let desk = Desk::new(PathTable::new(&mut records)?);
-    let mut session = Session::new(gate, store, desk, out, working);
+    let mut session = Session::new(gate, store, desk, resets, out, working);
     let ran = script.run(rt, &mut session);
     session.end();
     Ok(ran?)

@@ -6,3 +6,4 @@ pub mod FewLaws
 pub mod Clients
 pub mod Shifting
 pub mod Banks
+pub mod Deriving

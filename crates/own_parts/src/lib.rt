@@ -3,6 +3,7 @@
 // through them.
 mod banks;
 mod clients;
+mod derived;
 mod few;
 mod forward;
 mod pairs;
@@ -13,6 +14,7 @@ mod tests;
 
 pub use banks::Banks;
 pub use clients::{Guest, issue_and_admit, serve, serve_all};
+pub use derived::DerivingKey;
 pub use few::Few;
 pub use forward::Forward;
 pub use pairs::{Pair, PairLog};

@@ -3,6 +3,7 @@ use answers::{FilterCause, LogCause, Refusal};
 use filter::{ExactSet, Filter, ListingFilter, Places, TurningFilter};
 use gate::Gate;
 use sealing::{BenchScheme, MAX_TOKEN_LEN, Nonce, WORKING_LEN};
+use stateless_reset::{RESET_WORKING_LEN, ResetToken};
 use std::alloc::Global;
 use std::process::Abort;
 use std::string::String;
@@ -220,5 +221,25 @@ fn banks_in_a_log(rt: HostRuntime) -> Result<(), Fail> {
     assert!(rt; memory.one.words.high.as_slice() == [0, 0, 9].as_slice());
     assert!(rt; memory.two.words.low.as_slice() == [0xfe].as_slice());
     assert!(rt; memory.two.words.high.as_slice() == [0, 0, 9].as_slice());
+    Ok(())
+}
+
+// The token was computed with Python's `hmac`.
+#[test]
+fn a_key_of_each_id(rt: HostRuntime) -> Result<(), Fail> {
+    let mut working = [9; RESET_WORKING_LEN];
+    let token = ResetToken::new(
+        &DerivingKey::new(b"Jefe"),
+        &[0xaa, 0xbb, 0xcc, 0xdd],
+        &mut working,
+    )?;
+    assert_eq!(rt;
+        *token.as_bytes(),
+        [
+            0xdf, 0xaa, 0x22, 0xf1, 0x05, 0x06, 0xb7, 0xd0, 0x40, 0x28, 0xc3, 0x51, 0xf7, 0x12,
+            0x06, 0x5a
+        ]
+    );
+    assert_eq!(rt; working, [0; RESET_WORKING_LEN]);
     Ok(())
 }

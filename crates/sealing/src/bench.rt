@@ -32,7 +32,9 @@ fn sum(a: &[u8; TAG_LEN], b: &[u8; TAG_LEN]) -> [u8; TAG_LEN]
     array::from_fn(|j| a[j].wrapping_add(b[j]))
 }
 
-fn check_bytes(key: &[u8; TAG_LEN], nonce: &[u8; TAG_LEN], content: &[u8]) -> [u8; TAG_LEN]
+/// The check bytes of a content of any length: byte j is the sum modulo 256 of key byte j, nonce byte j and every content byte
+/// whose position leaves j modulo 16.
+pub fn check_bytes(key: &[u8; TAG_LEN], nonce: &[u8; TAG_LEN], content: &[u8]) -> [u8; TAG_LEN]
     ensures { result ≡ check_bytes key.now nonce.now content.now }
 {
     let mut sums = sum(key, nonce);

@@ -18,7 +18,7 @@ mod tokens;
 mod working;
 
 use answers::Refusal;
-pub use bench::{BenchScheme, BenchTag};
+pub use bench::{BenchScheme, BenchTag, check_bytes};
 pub use lengths::{opened_len, sealed_len};
 pub use tag::same_tag;
 pub use tagged::{Tag, Tagged};

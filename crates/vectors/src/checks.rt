@@ -4,6 +4,7 @@ use crate::words::{array, bytes};
 use aes::Aes256;
 use ccm::CcmScheme;
 use sha256::HmacKey;
+use stateless_reset::{BenchKey, RESET_TOKEN_SIZE, RESET_WORKING_LEN, ResetToken};
 use std::alloc::Global;
 use std::fmt;
 use std::str::FromStr;
@@ -16,15 +17,17 @@ pub(crate) enum Group {
     Expand,
     Aes256,
     Ccm,
+    Reset,
 }
 
 impl Group {
-    pub(crate) const ALL: [Group; 5] = [
+    pub(crate) const ALL: [Group; 6] = [
         Group::Sha256,
         Group::Hmac,
         Group::Expand,
         Group::Aes256,
         Group::Ccm,
+        Group::Reset,
     ];
 }
 
@@ -36,6 +39,7 @@ impl fmt::Display for Group {
             Group::Expand => "HKDF, one step of the expansion, RFC 5869",
             Group::Aes256 => "AES-256, FIPS 197 and SP 800-38A",
             Group::Ccm => "CCM under derived keys, content of 0 to 64 bytes",
+            Group::Reset => "reset tokens, HMAC-SHA-256 and the bench key, ids of 0 to 20 bytes",
         })
     }
 }
@@ -55,8 +59,28 @@ impl FromStr for Group {
             "expand" => Ok(Group::Expand),
             "aes256" => Ok(Group::Aes256),
             "ccm" => Ok(Group::Ccm),
+            "reset" => Ok(Group::Reset),
             _ => Err(NoGroup),
         }
+    }
+}
+
+// A key that reset tokens are made by.
+#[derive(Clone, Copy)]
+enum ResetKey {
+    Hmac(HmacKey),
+    Bench(BenchKey),
+}
+
+impl ResetKey {
+    // Whether the token of an id under this key has these bytes.
+    fn makes(&self, id: &[u8], token: [u8; RESET_TOKEN_SIZE]) -> bool {
+        let mut working = [0xff; RESET_WORKING_LEN];
+        let made = match self {
+            ResetKey::Hmac(key) => ResetToken::new(key, id, &mut working),
+            ResetKey::Bench(key) => ResetToken::new(key, id, &mut working),
+        };
+        made == Ok(ResetToken::from(token))
     }
 }
 
@@ -96,6 +120,15 @@ pub(crate) fn check(heap: Global, line: &str) -> anyhow::Result<(Group, bool)> {
                 sealed,
             }
             .holds()
+        }
+        Group::Reset => {
+            let key = match words.next() {
+                Some("hmac") => ResetKey::Hmac(HmacKey::new(&bytes(heap, words.next())?)),
+                Some("bench") => ResetKey::Bench(BenchKey::new(array(heap, words.next())?)),
+                _ => return Err(NoGroup.into()),
+            };
+            let id = bytes(heap, words.next())?;
+            key.makes(&id, array(heap, words.next())?)
         }
     };
     Ok((group, holds))

@@ -7,6 +7,7 @@ use Rattle.gate.specs.Calls.{judge}
 use Rattle.bloom.specs.Bits.{position}
 use Rattle.worked_examples.specs.Tokens.{TokenExamples}
 use Rattle.worked_examples.specs.Memory.{MemoryExamples}
+use Rattle.worked_examples.specs.Resets.{ResetExamples}
 use Rattle.worked_examples.specs.Examples.{TheWorkedExamplesHold}
 use Rattle.worked_examples.proofs.Sizes.{sure47, sure48, sure112, sure128}
 use Rattle.worked_examples.proofs.Run.{run}
@@ -36,5 +37,17 @@ memory = record {
   pushed_out = refl;
 }
 
+resets : ResetExamples
+unfolding column check_byte check_bytes
+resets = record {
+  token = refl;
+  small = refl;
+  long = refl;
+  reset21 = refl;
+  reset20 = refl;
+  again = refl;
+  full = refl;
+}
+
 pub holds : TheWorkedExamplesHold
-holds = (tokens, memory)
+holds = (tokens, memory, resets)

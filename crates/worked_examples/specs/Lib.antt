@@ -1,3 +1,4 @@
 pub mod Tokens
 pub mod Memory
+pub mod Resets
 pub mod Examples

@@ -1,0 +1,5 @@
+use Rattle.stateless_reset.proofs.Places.{lends}
+use Rattle.stateless_reset.proofs.table.ResetTokenTable.into_records.Goals as goal
+
+pub returns : goal.returns
+returns c = rw (c.into_records.ensures, ← c.self.view_is) (lends c.self.inside.pool c.self.inside.remembered c.self.invariant)

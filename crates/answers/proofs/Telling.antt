@@ -1,5 +1,5 @@
 -- A number tells its answer: the answer is found again by the number.
-use Rattle.std.proofs.Common.{◌≡◌, ℕ, cond, nat_eq, ◌⊎◌, Some, None, Option, sym, refl, ap, ◌∙◌, inl, inr, ⊎_elim}
+use Rattle.std.proofs.Common.{◌≡◌, ℕ, ◌≤◌, cond, nat_eq, ◌⊎◌, Some, None, Option, sym, refl, ap, ◌∙◌, inl, inr, ⊎_elim, arith}
 use Rattle.answers.specs.declared.Refusal.{Refusal}
 use Rattle.answers.specs.declared.Refusal.TheVariants as refusal
 use Rattle.answers.specs.declared.FilterCause.{FilterCause}
@@ -89,11 +89,41 @@ same_cause a b e =
     (λ p. inr p)
     (cause_found a).0
 
+-- where the numbers lie
+few : (a : Refusal) → ((1 ≤ refusal_number a) × (refusal_number a ≤ 8)) ⊎ ((41 ≤ refusal_number a) × (refusal_number a ≤ 44))
+few refusal.SmallBuffer = inl (omega arith, omega arith)
+few refusal.LongConnectionId = inl (omega arith, omega arith)
+few refusal.LateClock = inl (omega arith, omega arith)
+few refusal.LongLifetime = inl (omega arith, omega arith)
+few refusal.HashCount = inl (omega arith, omega arith)
+few refusal.LongEntry = inl (omega arith, omega arith)
+few refusal.Capacity = inl (omega arith, omega arith)
+few refusal.AlreadyRetried = inl (omega arith, omega arith)
+few refusal.BeyondAllowance = inr (omega arith, omega arith)
+few refusal.NoPath = inr (omega arith, omega arith)
+few refusal.GrantsOpen = inr (omega arith, omega arith)
+few refusal.ResetTableFull = inr (omega arith, omega arith)
+
+high : (b : Cause) → 9 ≤ cause_number b
+high cause.ZeroLifetime = omega arith
+high cause.BeforePeriod = omega arith
+high cause.Held = omega arith
+high cause.Full = omega arith
+high cause.EmptyToken = omega arith
+high cause.Unopened = omega arith
+high (cause.Undecodable f) = omega arith
+high cause.OtherIp = omega arith
+high cause.Expired = omega arith
+high cause.OtherAddress = omega arith
+high cause.RetryExpired = omega arith
+
 pub numbers_tell : NumbersTell
 numbers_tell = record {
   refusals = told refusals refusal_number refusal_found;
   filter_causes = told filter_causes filter_cause_number filter_cause_found;
   log_causes = told log_causes log_cause_number log_cause_found;
   causes = same_cause;
+  few = few;
+  high = high;
   apart = λ a b e. let x : ◌≡◌ {A = Option Refusal} (Some a) None = sym (refusal_found a) ∙ ap (find refusals) e ∙ (cause_found b).1 in cc;
 }

@@ -1,5 +1,5 @@
 -- The numbers by which refusals and causes are known.
-use Rattle.std.specs.Prelude.{◌≡◌, ◌≢◌, ℕ, ◌⊎◌}
+use Rattle.std.specs.Prelude.{◌≡◌, ◌≢◌, ℕ, ◌≤◌, ◌⊎◌}
 use Rattle.answers.specs.declared.Refusal.{Refusal}
 use Rattle.answers.specs.declared.Refusal.TheVariants as refusal
 use Rattle.answers.specs.declared.FilterCause.{FilterCause}
@@ -54,10 +54,13 @@ log_cause_number c = cause_number (cause_of c)
 abbrev pub filter_cause_number : FilterCause → ℕ
 filter_cause_number c = log_cause_number (log_cause_of c)
 
--- equal numbers, equal answers (two contents may be undecodable for different faults); no number is a refusal's and a cause's
+-- equal numbers, equal answers (two contents may be undecodable for different faults); refusals are 1 to 8 and 41 to 44,
+-- causes are above 8, and no number is a refusal's and a cause's
 pub record NumbersTell : Type 0 where
   pub refusals : (a b : Refusal) → refusal_number a ≡ refusal_number b → a ≡ b
   pub filter_causes : (a b : FilterCause) → filter_cause_number a ≡ filter_cause_number b → a ≡ b
   pub log_causes : (a b : LogCause) → log_cause_number a ≡ log_cause_number b → a ≡ b
   pub causes : (a b : Cause) → cause_number a ≡ cause_number b → (a ≡ b) ⊎ (cause_number a ≡ 22)
+  pub few : (a : Refusal) → ((1 ≤ refusal_number a) × (refusal_number a ≤ 8)) ⊎ ((41 ≤ refusal_number a) × (refusal_number a ≤ 44))
+  pub high : (b : Cause) → 9 ≤ cause_number b
   pub apart : (a : Refusal) (b : Cause) → refusal_number a ≢ cause_number b

@@ -279,7 +279,8 @@ pub fn casts_are_numbers()
     ensures { CASTS ≡ 1 ∷ 2 ∷ 3 ∷ 4 ∷ 5 ∷ 6 ∷ 7 ∷ 8 ∷ 41 ∷ 42 ∷ 43 ∷ 44 ∷ [] }
 {}
 
-/// A number tells the refusal or the cause it stands for, and no number stands for one of each.
+/// A number tells the refusal or the cause it stands for: refusals have 1 to 8 and 41 to 44, causes have more than 8, and no
+/// number stands for one of each.
 pub fn numbers_tell_answers()
     ensures { NumbersTell }
 {}

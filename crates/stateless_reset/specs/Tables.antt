@@ -7,7 +7,7 @@ use Rattle.answers.specs.declared.Refusal.TheVariants.{ResetTableFull}
 use Rattle.record_pool.specs.declared.chain.Chain.{Chain}
 use Rattle.record_pool.specs.declared.pool.Pool.{Pool}
 use Rattle.record_pool.specs.declared.record.Record.{Record}
-use Rattle.record_pool.specs.Pools.{items, Divided, HoldsJust}
+use Rattle.record_pool.specs.Pools.{Blanked, items, Divided, HoldsJust}
 use Rattle.stateless_reset.specs.declared.TheConstants.{RESET_TOKEN_SIZE, MIN_RESET_LEN}
 
 pub record Table : Type 0 where
@@ -57,6 +57,7 @@ table_of pool c = record { places = length pool.records.now; tokens = items pool
 
 pub record Sound (pool : Pool (List ℕ)) (c : Chain) : Type 0 where
   pub divided : Divided pool (c ∷ [])
+  pub blanked : Blanked pool
   pub blanks : pool.blank ≡ blank
 
 -- the lent records: a place each, and each token that is remembered in one of them, and all the others blank

@@ -66,10 +66,11 @@ impl<F: Filter> TokenLog for TwoGenerationLog<F> {
         if expiry < self.period_start {
             return Err(LogCause::BeforePeriod);
         }
-        match (expiry - self.period_start) / period {
-            0 => return Ok(self.one.record(low)?),
-            1 => return Ok(self.two.record(low)?),
-            2 => {
+        // By comparing: a division of 64 bits took longer than all the rest of a refused call.
+        match expiry - self.period_start {
+            since if since < period => return Ok(self.one.record(low)?),
+            since if since < 2 * period => return Ok(self.two.record(low)?),
+            since if since < 3 * period => {
                 std::mem::swap(&mut self.one, &mut self.two);
                 self.period_start += period;
             }

@@ -9,7 +9,7 @@ use Rattle.record_pool.specs.declared.chain.Chain.{Chain}
 use Rattle.record_pool.specs.declared.pool.Pool.{Pool}
 use Rattle.record_pool.specs.declared.record.Record.{Record}
 use Rattle.record_pool.specs.Chains.{empty_chain}
-use Rattle.record_pool.specs.Pools.{links, slots, items, Divided, HoldsJust}
+use Rattle.record_pool.specs.Pools.{Blanked, links, slots, items, Divided, HoldsJust}
 use Rattle.record_pool.proofs.Orders.{holds_just}
 use Rattle.record_pool.proofs.Sharing.{with_empty}
 use Rattle.token_store.specs.Store.{Bytes}
@@ -24,7 +24,6 @@ pub beside : {X : Type 0} (pool : Pool X) (cs : List Chain) → Divided pool cs 
 beside pool cs d = record {
   size = d.size;
   shared = with_empty (length pool.records.now) (links pool.records.now) pool.free cs d.shared;
-  blanked = d.blanked;
 }
 
 pub sized : {X : Type 0} (pool : Pool X) (n : ℕ) (x : X) → slots pool.records.now ≡ None ∷ replicate n (Some x) → length pool.records.now ≡ n
@@ -35,10 +34,10 @@ sized {X = X} pool n x e =
     omega arith
 
 -- a cache with no names yet
-pub begun : (most each : ℕ) (names : Pool NameEntry) (tokens : Pool Bytes) → Divided names [] → Divided tokens [] → names.blank ≡ blank_name → tokens.blank ≡ []
+pub begun : (most each : ℕ) (names : Pool NameEntry) (tokens : Pool Bytes) → Divided names [] → Divided tokens [] → Blanked names → Blanked tokens → names.blank ≡ blank_name → tokens.blank ≡ []
     → most ≤ length names.records.now → most * each ≤ length tokens.records.now → Sound most each (shelf names tokens empty_chain)
-begun most each names tokens dn dt bn bt mn mt = record {
-  stands = record { names = beside names [] dn; tokens = dt; blank = (bn, bt) };
+begun most each names tokens dn dt fn ft bn bt mn mt = record {
+  stands = record { names = beside names [] dn; tokens = dt; blanked = (fn, ft); blank = (bn, bt) };
   kept = (refl, refl, omega arith, refl);
   name_records = mn;
   token_records = mt;
@@ -67,9 +66,9 @@ all_tokens t (h ∷ hs) = ap (λ l. items t h.tokens ++ l) (all_tokens t hs)
 pub lends : (names tokens : ℕ) (s : Shelf) → Stands [] s → Lent (cache_of names tokens s) s.names.records.now s.tokens.records.now
 lends names tokens s st =
     let n : HoldsJust blank_name (listed s) (map (λ r. r.item) s.names.records.now)
-    = rw (append-nil (listed s), st.blank.0) at (holds_just s.names (s.used ∷ []) st.names) in
+    = rw (append-nil (listed s), st.blank.0) at (holds_just s.names (s.used ∷ []) st.names st.blanked.0) in
     let t : HoldsJust [] (flat_map (items s.tokens) (chains s)) (map (λ r. r.item) s.tokens.records.now)
-    = rw st.blank.1 at (holds_just s.tokens (chains s) st.tokens) in
+    = rw st.blank.1 at (holds_just s.tokens (chains s) st.tokens st.blanked.1) in
     record {
       all_names = refl;
       all_tokens = refl;

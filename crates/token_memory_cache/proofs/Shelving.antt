@@ -77,6 +77,7 @@ taken_off s names' used' ps fs k x st l b e =
         names = h.divided;
         tokens = subst (λ xs. Divided s.tokens (x.tokens ∷ map chain_of xs)) (sym h.gives)
             (subst (λ y. Divided s.tokens (y.tokens ∷ map chain_of (cut k hs))) is (without_one s.tokens hs k x l st.tokens));
+        blanked = (h.blanked st.blanked.0, st.blanked.1);
         blank = (h.blank ∙ st.blank.0, st.blank.1);
       };
       left = ap (map (entry_in s.tokens)) h.gives ∙ map-without (entry_in s.tokens) k hs;
@@ -116,6 +117,7 @@ roomed s names' tokens' used' c' ps fs gs most x st z l b e rel ec =
       stands = record {
         names = h.divided;
         tokens = subst (λ xs. Divided tokens' (map chain_of xs)) (sym h.gives) (without_empty tokens' c' others (ap (λ y. y.count) ec) k.divided);
+        blanked = (h.blanked st.blanked.0, k.blanked st.blanked.1);
         blank = (h.blank ∙ st.blank.0, k.blank ∙ st.blank.1);
       };
       left = ap (map (entry_in tokens')) h.gives ∙ entries_same s.tokens tokens' (drop 1 hs) k.rest ∙ sym (drop-map (entry_in s.tokens) 1 hs)
@@ -144,6 +146,7 @@ put s names' used' ps fs n c st b =
       stands = record {
         names = h.divided;
         tokens = subst (λ xs. Divided s.tokens (map chain_of xs)) (sym h.gives) (subst (Divided s.tokens) (sym (map-append chain_of hs (e ∷ []))) (to_end s.tokens c (map chain_of hs) st.tokens));
+        blanked = (h.blanked st.blanked.0, st.blanked.1);
         blank = (h.blank ∙ st.blank.0, st.blank.1);
       };
       left = ap (map (entry_in s.tokens)) h.gives ∙ map-append (entry_in s.tokens) hs (e ∷ []);
@@ -195,7 +198,7 @@ not_full s c most st l =
     record {
       names = refl;
       used = refl;
-      holds = subst (Holds s.tokens s.tokens c (chains s)) (sym room) (record { divided = st.tokens; size = refl; gives = refl; rest = refl; blank = refl });
+      holds = subst (Holds s.tokens s.tokens c (chains s)) (sym room) (record { divided = st.tokens; size = refl; gives = refl; rest = refl; blank = refl; blanked = λ bl. bl });
     }
 
 pub duplicate : (s : Shelf) (c : Chain) (most : ℕ) (t : Bytes) → Stands (c ∷ []) s → has t (items s.tokens c) ≡ true → Refilled s s c (added most t (items s.tokens c))
@@ -230,7 +233,7 @@ refilled s m t' c c' c'' ps fs most t st absent k b =
     let g = given m.tokens c' (chains s) h.divided in
     let j = holds m.tokens t' c' c'' (chains s) ps _ fs (items m.tokens c' ++ t ∷ []) h.divided b (ap (λ l. l ++ Some t ∷ []) (sym g) ∙ sym (map-append (λ y. Some y) (items m.tokens c') (t ∷ []))) in
     rw (k.names, k.used) (record {
-      stands = record { names = st.names; tokens = j.divided; blank = (st.blank.0, j.blank ∙ h.blank ∙ st.blank.1) };
+      stands = record { names = st.names; tokens = j.divided; blanked = (st.blanked.0, j.blanked (h.blanked st.blanked.1)); blank = (st.blank.0, j.blank ∙ h.blank ∙ st.blank.1) };
       tokens = j.gives ∙ ap (λ l. l ++ t ∷ []) h.gives ∙ sym (cond-false _ _ _ absent);
       left = entries_same s.tokens t' (listed s) (j.rest ∙ h.rest);
       size = record { names = refl; tokens = j.size ∙ h.size };
@@ -245,7 +248,7 @@ popped_out s t' c c' k ps fs st b =
     let g = given s.tokens c (chains s) st.tokens in
     let h = holds s.tokens t' c c' (chains s) ps _ fs (cut k ts) st.tokens b (ap (cut k) (sym g) ∙ sym (map-without (λ y. Some y) k ts)) in
     record {
-      stands = record { names = st.names; tokens = h.divided; blank = (st.blank.0, h.blank ∙ st.blank.1) };
+      stands = record { names = st.names; tokens = h.divided; blanked = (st.blanked.0, h.blanked st.blanked.1); blank = (st.blank.0, h.blank ∙ st.blank.1) };
       tokens = h.gives;
       left = entries_same s.tokens t' (listed s) h.rest;
       size = record { names = refl; tokens = h.size };

@@ -33,6 +33,7 @@ opened_new names n s m es a b e = record {
   stands = record {
     names = b.stands.names;
     tokens = beside m.tokens (chains m) b.stands.tokens;
+    blanked = b.stands.blanked;
     blank = b.stands.blank;
   };
   left = b.left ∙ sym e;
@@ -154,5 +155,5 @@ module _ (p : ℕ → ℕ) (w : Within p) (n : Bytes) (s m m' : Shelf) (c c' : C
   took_last z names tokens h =
       let l = length-items m'.tokens c' (chains m') f.stands.tokens in
       let none = leave_last n (entries s) (left p (tokens_of n (entries s))) (omega (arith, ap length still)) in
-      kept names tokens m' h (record { names = f.stands.names; tokens = without_empty m'.tokens c' (chains m') z f.stands.tokens; blank = f.stands.blank })
+      kept names tokens m' h (record { names = f.stands.names; tokens = without_empty m'.tokens c' (chains m') z f.stands.tokens; blanked = f.stands.blanked; blank = f.stands.blank })
       (others ∙ sym (leaves ∙ none)) (record { names = refl; tokens = refl })

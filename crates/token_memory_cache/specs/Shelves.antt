@@ -4,7 +4,7 @@ use Rattle.record_pool.specs.Chains.{without as cut}
 use Rattle.token_store.specs.Store.{Bytes}
 use Rattle.record_pool.specs.declared.chain.Chain.{Chain}
 use Rattle.record_pool.specs.declared.pool.Pool.{Pool}
-use Rattle.record_pool.specs.Pools.{items, Divided}
+use Rattle.record_pool.specs.Pools.{Blanked, items, Divided}
 use Rattle.token_memory_cache.specs.Cache.{Entry, Cache, others_of, tokens_of, fits, Kept, handed_out, taken}
 use Rattle.token_memory_cache.specs.Lent.{blank_name, entry_at}
 use Rattle.token_memory_cache.specs.declared.shelf.NameEntry.{NameEntry}
@@ -32,6 +32,7 @@ cache_of names tokens s = record { names = names; tokens = tokens; name_records 
 pub record Stands (loose : List Chain) (s : Shelf) : Type 0 where
   pub names : Divided s.names (s.used ∷ [])
   pub tokens : Divided s.tokens (loose ++ chains s)
+  pub blanked : Blanked s.names × Blanked s.tokens
   pub blank : (s.names.blank ≡ blank_name) × (s.tokens.blank ≡ [])
 
 -- no record came or went

@@ -4,3 +4,4 @@ pub mod Content
 pub mod Laws
 pub mod Ids
 pub mod Text
+pub mod Sameness

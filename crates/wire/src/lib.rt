@@ -2,7 +2,7 @@
 
 ghost use Rattle.std.specs.Prelude.{◌≡◌, ◌<◌, ◌≤◌, length};
 ghost use Rattle.answers.specs.Sameness.{TellsSameness, ClonesAreTheSame, ClonesNeverFail};
-ghost use Rattle.wire.specs.Content.{id_from};
+ghost use Rattle.wire.specs.Content.{id_from, same_ip, same_addr};
 ghost use Rattle.wire.specs.Numbers.{Bytes};
 ghost use Rattle.wire.specs.Laws.{SoundIp, Sound, DecodingUndoesEncoding, EachContentHasOneEncoding, ContentsAreShort, ContentsAreBytes};
 
@@ -106,12 +106,15 @@ pub fn ips_are_sound(ip: IpAddr)
     }
 }
 
-// Two IPs, addresses or connection ids are equal just if they are the same.
+// Two IPs, addresses or connection ids are equal just if they are the same; and so the definitions' `same_ip` and `same_addr`
+// tell what `==` does.
 #[tactic(auto, using(crate::proofs::Ids::ids_tell))]
 pub fn equal_values_are_the_same()
     ensures ips { TellsSameness (⟦<IpAddr as PartialEq>⟧.eq) }
     ensures addresses { TellsSameness (⟦<SocketAddr as PartialEq>⟧.eq) }
     ensures ids { TellsSameness (⟦<ConnectionId as PartialEq>⟧.eq) }
+    ensures same_ips { TellsSameness same_ip }
+    ensures same_addresses { TellsSameness same_addr }
 {}
 
 // Two contents are equal just if they are the same.

@@ -10,7 +10,7 @@ use Rattle.worked_examples.specs.Memory.{MemoryExamples}
 use Rattle.worked_examples.specs.Resets.{ResetExamples}
 use Rattle.worked_examples.specs.Examples.{TheWorkedExamplesHold}
 use Rattle.worked_examples.proofs.Sizes.{sure47, sure48, sure112, sure128}
-use Rattle.worked_examples.proofs.Run.{run}
+use Rattle.worked_examples.proofs.Run.{run, occurs}
 
 tokens : TokenExamples
 unfolding column check_byte check_bytes nonce_bytes sealed_with low_of says judge encode_content decode_retry decode_addr
@@ -28,6 +28,7 @@ memory : MemoryExamples
 unfolding position
 memory = record {
   run = run;
+  occurs = occurs;
   sure47 = sure47;
   sure48 = sure48;
   sure112 = sure112;

@@ -1,6 +1,7 @@
 -- Worked examples of what is remembered: the log, sizes and positions of filters, the client's cache.
 use Rattle.std.specs.Prelude.{◌≡◌, ℕ, List, [], ◌∷◌, map, Ok, Err}
 use Rattle.answers.specs.declared.LogCause.TheVariants.{Held, BeforePeriod}
+use Rattle.filter.specs.Filter.{Answer as Reply, Records, Emptied, exact}
 use Rattle.filter.specs.Sets.{SetRecords, SetEmpties}
 use Rattle.filter.specs.declared.exact.ExactSet.{ExactSet}
 use Rattle.bloom.specs.Sizes.{half, Largest}
@@ -29,6 +30,21 @@ TheLogsRun =
     (one two : ExactSet) (s s' : TwoGenerationLog ExactSet) (ks : List Call) → one.capacity ≡ 4 → two.capacity ≡ 4 → Begun SetEmpties one two s
     → map (λ k. k.query) ks ≡ periods → Leads (Logs SetRecords SetEmpties) s ks s' → map (λ k. k.answer) ks ≡ answers
 
+-- the same by lists: a set of four places by what it holds, an unused log over two of them, and the calls with their answers
+abbrev pub four_record : List ℕ → ℕ → Reply → List ℕ → Type 0
+four_record xs f r ys = Records f (exact xs 4) (exact ys 4) r
+
+abbrev pub four_empty : List ℕ → List ℕ → Type 0
+four_empty xs ys = Emptied (exact xs 4) (exact ys 4)
+
+abbrev pub unused : TwoGenerationLog (List ℕ)
+unused = record { period_start = 0; one = []; two = [] }
+
+abbrev pub called : List Query → List Answer → List Call
+called [] rs = []
+called (x ∷ xs) [] = []
+called (x ∷ xs) (r ∷ rs) = record { query = x; answer = r } ∷ called xs rs
+
 -- the first three positions of a fingerprint among 64 bits
 abbrev pub positions : ℕ → List ℕ
 positions f = map (position 64 f) (0 ∷ 1 ∷ 2 ∷ [])
@@ -52,6 +68,7 @@ to n es = stored 2 2 n token es
 
 pub record MemoryExamples : Type 0 where
   pub run : TheLogsRun
+  pub occurs : (last : TwoGenerationLog (List ℕ)) × Leads (Logs four_record four_empty) unused (called periods answers) last
   pub sure47 : Largest (half 47) 0
   pub sure48 : Largest (half 48) 3
   pub sure112 : Largest (half 112) 7

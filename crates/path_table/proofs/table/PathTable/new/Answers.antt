@@ -7,4 +7,4 @@ returns-clause-made c = blank_paths c.in_ok-pool.pool (length c.args.records.now
 
 pub invariant_of-result : goal.invariant_of-result
 invariant_of-result c =
-    new_standing c.in_ok-pool.pool (length c.args.records.now) c.in_ok-pool.ensures.made.0 c.in_ok-pool.ensures.items.1 (returns-clause-made c)
+    new_standing c.in_ok-pool.pool (length c.args.records.now) c.in_ok-pool.ensures.made.0 c.in_ok-pool.ensures.blanked c.in_ok-pool.ensures.items.1 (returns-clause-made c)

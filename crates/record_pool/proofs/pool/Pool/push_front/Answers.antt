@@ -4,6 +4,6 @@ use Rattle.record_pool.proofs.pool.Pool.push_front.Goals as goal
 
 pub returns-clause-chains : goal.returns-clause-chains
 returns-clause-chains g c others pos d = becomes c.args.self.now _ _ others _ _ _ c.take.ensures.leaves.blank
-    (pushed_front c.args.self.now.records.now c.take.new.self.records.now c.join.new.records c.take.new.self.free c.args.chain.now c.in_ok-one.one c.join.result others _ _ _ c.args.self.now.blank
+    (pushed_front c.args.self.now.records.now c.take.new.self.records.now c.join.new.records c.args.self.now.free c.take.new.self.free c.args.chain.now c.in_ok-one.one c.join.result others _ _ _ c.args.self.now.blank
     (outcome _ _ _ _ _ _ _ (c.in_ok-one.ensures.chains (c.args.chain.now ∷ others) d))
     c.join.ensures.slots (c.join.ensures.chains (c.take.new.self.free ∷ others)))

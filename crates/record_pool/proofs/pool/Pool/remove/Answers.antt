@@ -24,7 +24,7 @@ pub returns-clause-chains : goal.returns-clause-chains
 returns-clause-chains g c others within d = becomes c.args.self.now _ _ others _ _ _ refl
     (removed c.args.self.now.records.now c.detach.new.records c.put.new.records c.join-self.new.records
     c.args.self.now.free c.args.chain.now c.detach.result.rest c.detach.result.one c.join-self.result others c.args.k c.args.self.now.blank
-    d.size within (leading c.args.self.now c.args.chain.now others d) d.blanked c.detach.ensures.slots
+    d.size within (leading c.args.self.now c.args.chain.now others d) c.detach.ensures.slots
     (c.detach.ensures.chains (c.args.self.now.free ∷ others)
     (leading c.args.self.now c.args.chain.now others d)) c.detach.ensures.first c.put.ensures.links c.put.ensures.slots
     c.join-self.ensures.slots (c.join-self.ensures.chains (c.detach.result.rest ∷ others)))
